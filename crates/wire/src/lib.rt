@@ -1,0 +1,1 @@
+// Big-endian fields of a byte slice.
