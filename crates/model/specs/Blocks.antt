@@ -1,0 +1,69 @@
+-- "Blocks: 0 to 16, given at setup": the rules of a block list, setup's state, and the block that a pair names.
+-- Assumes nothing.
+use Prim.Native.Nat.{ℕ, zero, suc, _+_, _*_, _/_, _%_}
+use mathlib.Core.Bool.{Bool, true, false}
+use mathlib.Core.List.{List}
+use lib.ListN.{length, set, replicate}
+use lib.Seq.{sets}
+use lib.Dec.{leb, ltb, eqb}
+use Rattle.model.specs.Choice.{pick, _and_, every}
+use Rattle.model.specs.Layout.{Block, blockIn, blockAt, blocksOf, stateWords}
+
+-- "A page is 8,192 bytes."
+abbrev pub pageSize : ℕ
+pageSize = 8192
+
+abbrev pub sizeOf : Block → ℕ
+sizeOf b = b .pages * pageSize
+
+abbrev pub endOf : Block → ℕ
+endOf b = b .base + sizeOf b
+
+-- "Base is a multiple of 8,192; pages 1 to 1,048,576; the end is at most 2^63; each base is at or above the end before it; first plus
+-- count of permanent pages is at most pages; count 0 needs first 0; a count above 0 needs configured 1."
+unfoldable pub blockKeeps : Block → ℕ → Bool
+blockKeeps b endBefore =
+    eqb (b .base % pageSize) 0
+    and leb 1 (b .pages)
+    and leb (b .pages) 1048576
+    and leb (endOf b) 9223372036854775808
+    and leb endBefore (b .base)
+    and leb (b .first + b .permanent) (b .pages)
+    and leb (b .configured) 1
+    and pick (eqb (b .permanent) 0) (eqb (b .first) 0) (eqb (b .configured) 1)
+
+-- the end of the block before block i, 0 where there is none
+unfoldable pub endBefore : List ℕ → ℕ → ℕ → ℕ
+endBefore l at zero = 0
+endBefore l at (suc i) = endOf (blockIn l at i)
+
+-- the n blocks whose words stand in l from at on keep the rules
+unfoldable pub blocksKeep : List ℕ → ℕ → ℕ → Bool
+blocksKeep l at n = leb n 16 and every n (λ i. blockKeeps (blockIn l at i) (endBefore l at i))
+
+-- setup accepts a list of whole blocks that keep the rules (else refusal 7)
+unfoldable pub acceptedList : List ℕ → Bool
+acceptedList l = eqb (length l % 5) 0 and blocksKeep l 0 (length l / 5)
+
+-- "Setup leaves all channels closed, nothing outstanding, the journal empty."
+unfoldable pub setupState : List ℕ → List ℕ
+setupState l = sets (set (replicate stateWords 0) 52 (length l / 5)) 53 l
+
+-- "A pair names a block if addr is its base and size is all of it."
+unfoldable pub names : ℕ → ℕ → Block → Bool
+names addr size b = eqb (b .base) addr and eqb (sizeOf b) size
+
+-- the first block below n that the pair names, n where there is none
+unfoldable pub namedBelow : List ℕ → ℕ → ℕ → ℕ → ℕ
+namedBelow s addr size zero = 0
+namedBelow s addr size (suc n) =
+    pick (ltb (namedBelow s addr size n) n)
+    (namedBelow s addr size n)
+    (pick (names addr size (blockAt s n)) n (suc n))
+
+-- the number of the block that the pair names, and whether it names one
+abbrev pub namedBlock : List ℕ → ℕ → ℕ → ℕ
+namedBlock s addr size = namedBelow s addr size (blocksOf s)
+
+unfoldable pub isNamed : List ℕ → ℕ → ℕ → Bool
+isNamed s addr size = ltb (namedBlock s addr size) (blocksOf s)

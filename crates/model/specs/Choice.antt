@@ -1,0 +1,39 @@
+-- Choices by a test, connectives, and tables of a function's values.
+-- Assumes nothing.
+use Prim.Native.Nat.{ℕ, zero, suc}
+use mathlib.Core.Bool.{Bool, true, false}
+use mathlib.Core.List.{List, [], _∷_, _++_}
+
+infixr 35 _and_
+infixr 30 _or_
+-- a where the test is true, else b
+unfoldable pub pick {ℓ} : {A : Type ℓ} → Bool → A → A → A
+pick true a b = a
+pick false a b = b
+
+unfoldable pub _and_ : Bool → Bool → Bool
+true and b = b
+false and b = false
+
+unfoldable pub _or_ : Bool → Bool → Bool
+true or b = true
+false or b = b
+
+-- the test f passes at each number below n
+unfoldable pub every : ℕ → (ℕ → Bool) → Bool
+every zero f = true
+every (suc n) f = every n f and f n
+
+-- the first number below 4 at which the test f passes, 4 where there is none
+unfoldable pub firstOf : (ℕ → Bool) → ℕ
+firstOf f = pick (f 0) 0 (pick (f 1) 1 (pick (f 2) 2 (pick (f 3) 3 4)))
+
+-- f 0, f 1, and so on, n in all
+unfoldable pub tabulate : {A : Type 0} → (ℕ → A) → ℕ → List A
+tabulate f zero = []
+tabulate f (suc n) = tabulate f n ++ (f n ∷ [])
+
+-- the lists f 0, f 1, and so on, n in all, one after the other
+unfoldable pub joined : (ℕ → List ℕ) → ℕ → List ℕ
+joined f zero = []
+joined f (suc n) = joined f n ++ f n

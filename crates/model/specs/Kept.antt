@@ -1,0 +1,93 @@
+-- What every call keeps: soundness; what a refusal leaves; the slot, the output and the run that a call may touch.
+-- Assumes nothing.
+use Prim.Native.Nat.{ℕ, zero, suc, _+_, _-_, _*_, _/_, _≤_, _<_, min}
+use mathlib.Core.Path.{_≡_}
+use mathlib.Core.Bool.{Bool, true, false}
+use mathlib.Core.List.{List, [], _∷_, _++_}
+use lib.ListN.{length, getD, drop, take}
+use Rattle.entry.specs.declared.Fields.{Fields}
+use Rattle.entry.specs.Word.{unpacked}
+use Rattle.model.specs.Layout.{stateWords, lastOf, heldOf}
+use Rattle.model.specs.Blocks.{acceptedList}
+use Rattle.model.specs.State.{sound}
+use Rattle.model.specs.Journal.{slotOf, entriesAt, wordsOf, entryAt}
+use Rattle.model.specs.Calls.{Call, receive, offer, withdraw, close, work, drain, Outcome, outcome, started}
+use Rattle.model.specs.Demand3.{Run, runs, start}
+
+-- Setup's state is sound, every call keeps a sound state sound, and so refusal 8 meets no state that the agent made.
+pub record SoundnessKept : Type 0 where
+  pub bySetup : (l : List ℕ) → (sound (started l .state) ≡ true) × (length (started l .state) ≡ stateWords)
+  pub byCall :
+      (s j : List ℕ) (call : Call) →
+      length s ≡ stateWords →
+      sound s ≡ true →
+      (sound (outcome s j call .state) ≡ true) × (length (outcome s j call .state) ≡ stateWords)
+  pub byList : (l j : List ℕ) (calls : List Call) → sound (runs (start l j) calls .state) ≡ true
+
+-- what a call is lent beside the state and the journal
+unfoldable pub bufferOf : Call → List ℕ
+bufferOf (receive c m out) = out
+bufferOf (offer c v out) = out
+bufferOf (withdraw c v out) = out
+bufferOf (close c out) = out
+bufferOf (work budget out) = out
+bufferOf (drain run) = run
+
+-- "A refusal returns its number, the state it was given and reply length 0, and writes nothing anywhere."
+pub record Unchanged (s j : List ℕ) (call : Call) (r : Outcome) : Type 0 where
+  pub sameState : r .state ≡ s
+  pub sameJournal : r .journal ≡ j
+  pub sameBuffer : r .buffer ≡ bufferOf call
+  pub noCount : r .count ≡ 0
+  pub noPages : r .pages ≡ 0
+
+-- "An accepted call writes its reply at the start of the output, touches no output byte beyond it, and adds one entry": in its own slot.
+pub record Added (s j : List ℕ) (call : Call) (r : Outcome) : Type 0 where
+  pub lastNext : lastOf (r .state) ≡ lastOf s + 1
+  pub heldNext : heldOf (r .state) ≡ heldOf s + 1
+  pub numberNext : unpacked (entryAt (r .journal) (lastOf s + 1) .first) .number ≡ lastOf s + 1
+  pub otherSlots :
+      (i : ℕ) →
+      (i ≡ slotOf (lastOf s + 1) → ⊥) →
+      (i ≡ slotOf (lastOf s + 1) + 1 → ⊥) →
+      getD (r .journal) i 0 ≡ getD j i 0
+  pub sameLength : length (r .journal) ≡ length j
+  pub replyFits : r .count ≤ 672
+  pub sameOutput : length (r .buffer) ≡ length (bufferOf call)
+  pub restOfOutput : drop (r .count) (r .buffer) ≡ drop (r .count) (bufferOf call)
+
+-- "Drain copies the oldest entries to the start of a lent word run .., forgets them, .. adds none, and touches no other word."
+pub record Removed (s j : List ℕ) (run : List ℕ) (r : Outcome) : Type 0 where
+  pub sameJournal : r .journal ≡ j
+  pub sameLast : lastOf (r .state) ≡ lastOf s
+  pub heldLess : heldOf (r .state) + r .count ≡ heldOf s
+  pub whole : r .count ≡ min (heldOf s) (length run / 2)
+  pub sameRun : length (r .buffer) ≡ length run
+  pub oldest : take (r .count * 2) (r .buffer) ≡ wordsOf (entriesAt j (lastOf s - heldOf s + 1) (r .count))
+  pub restOfRun : drop (r .count * 2) (r .buffer) ≡ drop (r .count * 2) run
+
+-- a call that is no drain
+unfoldable pub Records : Call → Type 0
+Records (receive c m out) = Unit {0}
+Records (offer c v out) = Unit {0}
+Records (withdraw c v out) = Unit {0}
+Records (close c out) = Unit {0}
+Records (work budget out) = Unit {0}
+Records (drain run) = ⊥
+
+pub record CallsKept : Type 0 where
+  pub refusal :
+      (s j : List ℕ) (call : Call) →
+      (outcome s j call .refusal ≡ 0 → ⊥) →
+      Unchanged s j call (outcome s j call)
+  pub adds :
+      (s j : List ℕ) (call : Call) →
+      length s ≡ stateWords →
+      Records call →
+      outcome s j call .refusal ≡ 0 →
+      Added s j call (outcome s j call)
+  pub removes :
+      (s j run : List ℕ) →
+      length s ≡ stateWords →
+      outcome s j (drain run) .refusal ≡ 0 →
+      Removed s j run (outcome s j (drain run))

@@ -1,0 +1,14 @@
+pub mod Choice
+pub mod Layout
+pub mod Blocks
+pub mod State
+pub mod Refusals
+pub mod Journal
+pub mod Messages
+pub mod Memory
+pub mod Work
+pub mod Calls
+pub mod Reading
+pub mod Demand3
+pub mod Kept
+pub mod Day

@@ -1,0 +1,251 @@
+-- "DS messages": the service table, the messages' layouts, when a message is well formed, and what each does.
+-- Assumes nothing.
+use Prim.Native.Nat.{ℕ, zero, suc, _+_, _-_, _*_, min}
+use mathlib.Core.Bool.{Bool, true, false, not}
+use mathlib.Core.List.{List, [], _∷_, _++_}
+use lib.ListN.{length, getD}
+use lib.Dec.{leb, ltb, eqb}
+use Rattle.wire.specs.BigEndian.{byteAt, numberAt, bytesOf}
+use Rattle.model.specs.Choice.{pick, _and_, every, firstOf}
+use Rattle.model.specs.declared.Message.{Message}
+use Rattle.model.specs.declared.Message.the-variants.{
+  InitReq,
+  RegReq,
+  RegAck,
+  RegNack,
+  Unreg,
+  UnregAck,
+  UnregNack,
+  Data,
+  Nack,
+  Bad,
+}
+use Rattle.model.specs.Layout.{readyAt, placeOf, stageAt, handleAt, lastOf, withChannel, withService}
+use Rattle.model.specs.Journal.{
+  Event,
+  isReady,
+  isClosed,
+  versionRefused,
+  isOffered,
+  isRegistered,
+  offerRefused,
+  isEnded,
+  isNoted,
+}
+
+-- "Four services, from a table": id with its zero, major and minor version
+pub record Service : Type 0 where
+  pub id : List ℕ
+  pub major : ℕ
+  pub minor : ℕ
+
+unfoldable pub services : List Service
+services =
+    -- dr-mem
+    record { id = 100 ∷ 114 ∷ 45 ∷ 109 ∷ 101 ∷ 109 ∷ 0 ∷ []; major = 1; minor = 0 }
+    -- dr-vio
+    ∷ record { id = 100 ∷ 114 ∷ 45 ∷ 118 ∷ 105 ∷ 111 ∷ 0 ∷ []; major = 1; minor = 0 }
+    -- domain-shutdown
+    ∷ record {
+      id = 100 ∷ 111 ∷ 109 ∷ 97 ∷ 105 ∷ 110 ∷ 45 ∷ 115 ∷ 104 ∷ 117 ∷ 116 ∷ 100 ∷ 111 ∷ 119 ∷ 110 ∷ 0 ∷ [];
+      major = 1;
+      minor = 0;
+    }
+    -- domain-panic
+    ∷ record { id = 100 ∷ 111 ∷ 109 ∷ 97 ∷ 105 ∷ 110 ∷ 45 ∷ 112 ∷ 97 ∷ 110 ∷ 105 ∷ 99 ∷ 0 ∷ []; major = 1; minor = 0 }
+    ∷ []
+
+abbrev pub noService : Service
+noService = record { id = []; major = 0; minor = 0 }
+
+abbrev pub serviceOf : ℕ → Service
+serviceOf v = getD services v noService
+
+-- Types of messages.
+abbrev pub DS-INIT-REQ : ℕ
+DS-INIT-REQ = 0x0
+
+abbrev pub DS-INIT-ACK : ℕ
+DS-INIT-ACK = 0x1
+
+abbrev pub DS-INIT-NACK : ℕ
+DS-INIT-NACK = 0x2
+
+abbrev pub DS-REG-REQ : ℕ
+DS-REG-REQ = 0x3
+
+abbrev pub DS-REG-ACK : ℕ
+DS-REG-ACK = 0x4
+
+abbrev pub DS-REG-NACK : ℕ
+DS-REG-NACK = 0x5
+
+abbrev pub DS-UNREG : ℕ
+DS-UNREG = 0x6
+
+abbrev pub DS-UNREG-ACK : ℕ
+DS-UNREG-ACK = 0x7
+
+abbrev pub DS-UNREG-NACK : ℕ
+DS-UNREG-NACK = 0x8
+
+abbrev pub DS-DATA : ℕ
+DS-DATA = 0x9
+
+abbrev pub DS-NACK : ℕ
+DS-NACK = 0xa
+
+-- Result codes.
+abbrev pub DS-REG-VER-NACK : ℕ
+DS-REG-VER-NACK = 1
+
+abbrev pub DS-INV-HDL : ℕ
+DS-INV-HDL = 3
+
+-- "Header: type (4), payload_len (4)."
+unfoldable pub message : ℕ → List ℕ → List ℕ
+message type payload = bytesOf 4 type ++ bytesOf 4 (length payload) ++ payload
+
+abbrev pub typeOf : List ℕ → ℕ
+typeOf m = numberAt m 0 4
+
+abbrev pub payloadLength : List ℕ → ℕ
+payloadLength m = numberAt m 4 4
+
+-- The messages that the agent sends.
+-- minor_vers
+unfoldable pub initAck : ℕ → List ℕ
+initAck minor = message DS-INIT-ACK (bytesOf 2 minor)
+
+-- major_vers
+unfoldable pub initNack : ℕ → List ℕ
+initNack major = message DS-INIT-NACK (bytesOf 2 major)
+
+-- svc_handle, major_vers, minor_vers, svc_id
+unfoldable pub regReq : ℕ → Service → List ℕ
+regReq handle service =
+    message DS-REG-REQ
+    (bytesOf 8 handle ++ bytesOf 2 (service .major) ++ bytesOf 2 (service .minor) ++ service .id)
+
+-- svc_handle, result, major_vers
+unfoldable pub regNack : ℕ → ℕ → ℕ → List ℕ
+regNack handle result major = message DS-REG-NACK (bytesOf 8 handle ++ bytesOf 8 result ++ bytesOf 2 major)
+
+-- svc_handle
+unfoldable pub unreg : ℕ → List ℕ
+unreg handle = message DS-UNREG (bytesOf 8 handle)
+
+unfoldable pub unregAck : ℕ → List ℕ
+unregAck handle = message DS-UNREG-ACK (bytesOf 8 handle)
+
+unfoldable pub unregNack : ℕ → List ℕ
+unregNack handle = message DS-UNREG-NACK (bytesOf 8 handle)
+
+-- svc_handle, and what the service sends
+unfoldable pub data-message : ℕ → List ℕ → List ℕ
+data-message handle payload = message DS-DATA (bytesOf 8 handle ++ payload)
+
+-- svc_handle, result
+unfoldable pub nack : ℕ → ℕ → List ℕ
+nack handle result = message DS-NACK (bytesOf 8 handle ++ bytesOf 8 result)
+
+-- "A message is well formed if it has 8 + payload_len bytes, payload_len is at most 4,096, and the payload fits its type"
+unfoldable pub wholeMessage : List ℕ → Bool
+wholeMessage m = eqb (length m) (8 + payloadLength m) and leb (payloadLength m) 4096
+
+-- REG_REQ: "13 to 1,036, its last byte the only zero of the id"; the id is the payload from byte 12 on
+unfoldable pub idFits : List ℕ → Bool
+idFits m =
+    leb 13 (payloadLength m)
+    and leb (payloadLength m) 1036
+    and eqb (byteAt m (payloadLength m + 7)) 0
+    and every (payloadLength m - 13) (λ i. not (eqb (byteAt m (20 + i)) 0))
+
+-- the message's type and length are these
+abbrev pub isOf : List ℕ → ℕ → ℕ → Bool
+isOf m type len = eqb (typeOf m) type and eqb (payloadLength m) len
+
+unfoldable pub decodedByType : List ℕ → Message
+decodedByType m =
+    pick (isOf m DS-INIT-REQ 4) (InitReq (numberAt m 8 2))
+    (pick (eqb (typeOf m) DS-REG-REQ and idFits m) (RegReq (numberAt m 8 8))
+    (pick (isOf m DS-REG-ACK 10) (RegAck (numberAt m 8 8) (numberAt m 16 2))
+    (pick (isOf m DS-REG-NACK 18) (RegNack (numberAt m 8 8))
+    (pick (isOf m DS-UNREG 8) (Unreg (numberAt m 8 8))
+    (pick (isOf m DS-UNREG-ACK 8) UnregAck
+    (pick (isOf m DS-UNREG-NACK 8) UnregNack
+    (pick (eqb (typeOf m) DS-DATA and leb 8 (payloadLength m)) (Data (numberAt m 8 8))
+    (pick (isOf m DS-NACK 16) Nack
+    Bad))))))))
+
+-- the message that a list of bytes is
+unfoldable pub decoded : List ℕ → Message
+decoded m = pick (wholeMessage m) (decodedByType m) Bad
+
+-- What an accepted call does: what it notes, the state before the entry is counted, and the reply.
+pub record Effect : Type 0 where
+  pub event : Event
+  pub state : List ℕ
+  pub reply : List ℕ
+
+abbrev pub effect : Event → List ℕ → List ℕ → Effect
+effect e s reply = record { event = e; state = s; reply = reply }
+
+-- "Handles below are those of this channel": the service of channel c with handle h that is offered, registered, or live; 4 if none is
+abbrev pub offeredAs : List ℕ → ℕ → ℕ → ℕ → Bool
+offeredAs s c h v = eqb (stageAt s (placeOf c v)) 1 and eqb (handleAt s (placeOf c v)) h
+
+abbrev pub registeredAs : List ℕ → ℕ → ℕ → ℕ → Bool
+registeredAs s c h v = eqb (stageAt s (placeOf c v)) 2 and eqb (handleAt s (placeOf c v)) h
+
+abbrev pub liveAs : List ℕ → ℕ → ℕ → ℕ → Bool
+liveAs s c h v = not (eqb (stageAt s (placeOf c v)) 0) and eqb (handleAt s (placeOf c v)) h
+
+-- the services of a channel become idle, and it is closed (by 0 the host, 1 a message)
+unfoldable pub closing : List ℕ → ℕ → ℕ → Effect
+closing s c by = effect (isClosed c by) (withChannel s c 0) []
+
+-- a message that changes nothing, with its reply if it has one
+unfoldable pub noting : List ℕ → ℕ → ℕ → List ℕ → Effect
+noting s c type reply = effect (isNoted c type) s reply
+
+-- "INIT_REQ, at any time: all services on the channel become idle. Major 1: ACK (0x1) with minor 0, channel ready. Otherwise NACK (0x2)
+-- with major 1 if a higher one was asked, 0 if 0 was asked; channel closed."
+unfoldable pub initiated : List ℕ → ℕ → ℕ → Effect
+initiated s c major =
+    pick (eqb major 1)
+    (effect (isReady c) (withChannel s c 1) (initAck 0))
+    (effect (versionRefused c major) (withChannel s c 0) (initNack (pick (eqb major 0) 0 1)))
+
+-- "REG_ACK for an offered handle registers it with the lower of the two minors .. Any other of these is only noted."
+unfoldable pub acknowledged : List ℕ → ℕ → ℕ → ℕ → ℕ → Effect
+acknowledged s c handle minor v =
+    pick (ltb v 4)
+    (effect (isRegistered c v (min (serviceOf v .minor) minor) handle)
+    (withService s (placeOf c v) 2 handle (min (serviceOf v .minor) minor))
+    [])
+    (noting s c DS-REG-ACK [])
+
+-- "REG_NACK for an offered handle makes it idle."
+unfoldable pub notAcknowledged : List ℕ → ℕ → ℕ → Effect
+notAcknowledged s c v =
+    pick (ltb v 4)
+    (effect (offerRefused c v) (withService s (placeOf c v) 0 0 0) [])
+    (noting s c DS-REG-NACK [])
+
+-- "UNREG from the peer for a live handle (offered or registered) does so and replies UNREG_ACK, else UNREG_NACK."
+unfoldable pub unregistered : List ℕ → ℕ → ℕ → ℕ → Effect
+unregistered s c handle v =
+    pick (ltb v 4)
+    (effect (isEnded c v) (withService s (placeOf c v) 0 0 0) (unregAck handle))
+    (noting s c DS-UNREG (unregNack handle))
+
+-- "Offer sends REG_REQ with the id and its zero. The handle is the number of the offer's own entry, so none is used twice."
+unfoldable pub offering : List ℕ → ℕ → ℕ → Effect
+offering s c v =
+    effect (isOffered c v) (withService s (placeOf c v) 1 (lastOf s + 1) 0) (regReq (lastOf s + 1) (serviceOf v))
+
+-- "Withdraw sends UNREG and makes the service idle at once."
+unfoldable pub withdrawing : List ℕ → ℕ → ℕ → Effect
+withdrawing s c v =
+    effect (isEnded c v) (withService s (placeOf c v) 0 0 0) (unreg (handleAt s (placeOf c v)))
