@@ -64,10 +64,10 @@ unfoldable pub resultsSound : Removal → Bool
 resultsSound m = every (m .position) (λ i. eqb (getD (m .result) i 0) 0 or eqb (getD (m .result) i 0) 4)
 
 -- "a removal has a channel to 3, a handle up to that last number, 1 to 16 records, a position up to their count, and pages collected .."
-unfoldable pub removalSound : List ℕ → Removal → Bool
-removalSound s m =
+unfoldable pub removalSound : List ℕ → ℕ → Removal → Bool
+removalSound s last m =
     leb (m .channel) 3
-    and leb (m .handle) (lastOf s)
+    and leb (m .handle) last
     and leb 1 (m .count)
     and leb (m .count) 16
     and leb (m .position) (m .count)
@@ -78,7 +78,7 @@ removalSound s m =
 unfoldable pub outstandingSound : List ℕ → Bool
 outstandingSound s =
     eqb (outstandingOf s) 0
-    or (eqb (outstandingOf s) 1 and leb (cancelledOf s) 1 and removalSound s (removalOf s))
+    or (eqb (outstandingOf s) 1 and leb (cancelledOf s) 1 and removalSound s (lastOf s) (removalOf s))
 
 -- a state is sound
 unfoldable pub sound : List ℕ → Bool

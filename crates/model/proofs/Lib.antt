@@ -1,0 +1,5 @@
+pub mod Choice
+pub mod Words
+pub mod View
+pub mod Rules
+pub mod Day

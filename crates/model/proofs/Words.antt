@@ -1,0 +1,272 @@
+-- Changes of the state's words: which words each leaves, and which it gives.
+-- Assumes nothing.
+use mathlib.Core.Path.{_≡_, refl, sym, ap, _∙_, subst}
+use mathlib.Core.Bool.{Bool, true, false}
+use mathlib.Core.List.{List, [], _∷_, _++_}
+use Prim.Native.Nat.{ℕ, zero, suc, _+_, _*_, _/_, _%_, _<_, _≤_}
+use native.Mathlib.Omega.{arith}
+use lib.ListN.{length, getD, set, replicate, length-set, length-replicate, getD-replicate}
+use lib.Seq.{sets, ext-getD, getD-set-same, getD-set-other, length-sets}
+use lib.Dec.{eqb, ltb, leb}
+use borrow.Author.Tests.{ltb-true, ltb-false, leb-true, eqb-true}
+use Rattle.model.specs.Choice.{tabulate}
+use Rattle.model.specs.declared.Removal.{Removal}
+use Rattle.model.specs.Layout.{
+  isSet,
+  wordOf,
+  removalOf,
+  removalHead,
+  withChannel,
+  withService,
+  withConfigured,
+  withCounts,
+  withRemoval,
+  withoutRemoval,
+  outstandingOf,
+  cancelledOf,
+}
+use Rattle.model.proofs.Choice.{tabulate-at, tabulate-length, tabulate-same}
+
+-- A run of stores: before it, after it, outside it, inside it.
+pub sets-below : (l v : List ℕ) (at j : ℕ) → j < at → getD (sets l at v) j 0 ≡ getD l j 0
+sets-below l [] at j h = refl
+sets-below l (x ∷ v) at j h =
+    sets-below (set l at x) v (suc at) j (omega arith) ∙ getD-set-other l at j x 0 (λ (e : j ≡ at). omega arith)
+
+pub sets-above : (l v : List ℕ) (at j : ℕ) → at + length v ≤ j → getD (sets l at v) j 0 ≡ getD l j 0
+sets-above l [] at j h = refl
+sets-above l (x ∷ v) at j h =
+    sets-above (set l at x) v (suc at) j (omega arith) ∙ getD-set-other l at j x 0 (λ (e : j ≡ at). omega arith)
+
+pub sets-else : (l v : List ℕ) (at j : ℕ) → (at ≤ j → j < at + length v → ⊥) → getD (sets l at v) j 0 ≡ getD l j 0
+sets-else l v at j n = go (ltb j at) refl (ltb j (at + length v)) refl
+  where
+    go : (a : Bool) → ltb j at ≡ a → (b : Bool) → ltb j (at + length v) ≡ b → getD (sets l at v) j 0 ≡ getD l j 0
+    go true p b q = sets-below l v at j (ltb-true j at p)
+    go false p true q = absurd (n (ltb-false j at p) (ltb-true j (at + length v) q))
+    go false p false q = sets-above l v at j (ltb-false j (at + length v) q)
+
+pub sets-at : (l v : List ℕ) (at i : ℕ) → i < length v → at + length v ≤ length l → getD (sets l at v) (at + i) 0 ≡ getD v i 0
+sets-at l [] at i h n = absurd (omega arith)
+sets-at l (x ∷ v) at zero h n =
+    let e : at + 0 ≡ at = omega arith in
+    rw e (sets-below (set l at x) v (suc at) at (omega arith) ∙ getD-set-same l at x 0 (omega arith))
+sets-at l (x ∷ v) at (suc i) h n =
+    let e : at + suc i ≡ suc at + i = omega arith in
+    rw e (sets-at (set l at x) v (suc at) i (omega arith) (simp length-set (omega arith)))
+
+-- t has the words of s from lo up to hi
+abbrev pub Agree : List ℕ → List ℕ → ℕ → ℕ → Type 0
+Agree s t lo hi = (j : ℕ) → lo ≤ j → j < hi → getD t j 0 ≡ getD s j 0
+
+-- t has the words of s but for n words from at on
+abbrev pub Frame : List ℕ → List ℕ → ℕ → ℕ → Type 0
+Frame s t at n = (j : ℕ) → (at ≤ j → j < at + n → ⊥) → getD t j 0 ≡ getD s j 0
+
+pub service-frame : (s : List ℕ) (k stage handle minor : ℕ) → Frame s (withService s k stage handle minor) (4 + k * 3) 3
+unfolding withService
+service-frame s k stage handle minor j n = sets-else s (stage ∷ handle ∷ minor ∷ []) (4 + k * 3) j n
+
+pub service-length : (s : List ℕ) (k stage handle minor : ℕ) → length (withService s k stage handle minor) ≡ length s
+unfolding withService
+service-length s k stage handle minor = length-sets s (4 + k * 3) (stage ∷ handle ∷ minor ∷ [])
+
+pub configured-frame : (s : List ℕ) (i flag : ℕ) → Frame s (withConfigured s i flag) (53 + i * 5 + 4) 1
+unfolding withConfigured
+configured-frame s i flag j n = getD-set-other s (53 + i * 5 + 4) j flag 0 (λ q. n (omega arith) (omega arith))
+
+pub configured-length : (s : List ℕ) (i flag : ℕ) → length (withConfigured s i flag) ≡ length s
+unfolding withConfigured
+configured-length s i flag = length-set s (53 + i * 5 + 4) flag
+
+pub counts-frame : (s : List ℕ) (last held : ℕ) → Frame s (withCounts s last held) 133 2
+unfolding withCounts
+counts-frame s last held j n = sets-else s (last ∷ held ∷ []) 133 j n
+
+pub counts-length : (s : List ℕ) (last held : ℕ) → length (withCounts s last held) ≡ length s
+unfolding withCounts
+counts-length s last held = length-sets s 133 (last ∷ held ∷ [])
+
+-- a channel's own word, and its services' twelve
+pub channel-frame : (s : List ℕ) (c ready j : ℕ) → (j ≡ c → ⊥) → (4 + c * 12 ≤ j → j < 16 + c * 12 → ⊥) → getD (withChannel s c ready) j 0 ≡ getD s j 0
+unfolding withChannel
+channel-frame s c ready j n m =
+    sets-else (set s c ready) (replicate 12 0) (4 + c * 12) j (λ a b. m a (omega arith))
+    ∙ getD-set-other s c j ready 0 n
+
+pub channel-length : (s : List ℕ) (c ready : ℕ) → length (withChannel s c ready) ≡ length s
+unfolding withChannel
+channel-length s c ready = length-sets (set s c ready) (4 + c * 12) (replicate 12 0) ∙ length-set s c ready
+
+-- an outstanding removal's words
+module _ (s : List ℕ) (m : Removal) where
+  r1 : List ℕ
+  r1 = sets s 135 (removalHead m)
+
+  r2 : List ℕ
+  r2 = sets r1 143 (m .address)
+
+  r3 : List ℕ
+  r3 = sets r2 159 (m .size)
+
+  pub removal-frame : (j : ℕ) → j < 135 → getD (withRemoval s m) j 0 ≡ getD s j 0
+  unfolding withRemoval r1 r2 r3
+  removal-frame j h =
+      sets-below r3 (m .result) 175 j (omega arith)
+      ∙ sets-below r2 (m .size) 159 j (omega arith)
+      ∙ sets-below r1 (m .address) 143 j (omega arith)
+      ∙ sets-below s (removalHead m) 135 j (omega arith)
+
+  pub removal-length : length (withRemoval s m) ≡ length s
+  unfolding withRemoval r1 r2 r3
+  removal-length =
+      length-sets r3 175 (m .result)
+      ∙ length-sets r2 159 (m .size)
+      ∙ length-sets r1 143 (m .address)
+      ∙ length-sets s 135 (removalHead m)
+
+-- its arrays have sixteen elements
+pub record Arrays (m : Removal) : Type 0 where
+  pub addresses : length (m .address) ≡ 16
+  pub sizes : length (m .size) ≡ 16
+  pub results : length (m .result) ≡ 16
+
+flag-word : (b : Bool) → isSet (wordOf b) ≡ b
+flag-word true = refl
+flag-word false = refl
+
+-- sixteen words that stand in the list are those that are loaded
+sixteen : (l v : List ℕ) (at : ℕ) → length v ≡ 16 → ((i : ℕ) → i < 16 → getD l (at + i) 0 ≡ getD v i 0) → tabulate (λ i. getD l (at + i) 0) 16 ≡ v
+sixteen l v at n h =
+    ext-getD 0 (tabulate (λ i. getD l (at + i) 0) 16) v (tabulate-length _ 16 ∙ sym n)
+    (λ i k.
+    let k16 : i < 16 = omega (arith, tabulate-length (λ (i : ℕ). getD l (at + i) 0) 16) in
+    tabulate-at (λ (i : ℕ). getD l (at + i) 0) 16 i 0 k16 ∙ h i k16)
+
+-- what is stored is what is loaded
+module _ (s : List ℕ) (m : Removal) (n : length s ≡ 191) (a : Arrays m) where
+  q1 : length (r1 s m) ≡ 191
+  unfolding r1
+  q1 = length-sets s 135 (removalHead m) ∙ n
+
+  q2 : length (r2 s m) ≡ 191
+  unfolding r2
+  q2 = length-sets (r1 s m) 143 (m .address) ∙ q1
+
+  q3 : length (r3 s m) ≡ 191
+  unfolding r3
+  q3 = length-sets (r2 s m) 159 (m .size) ∙ q2
+
+  pub head-back : (i : ℕ) → i < 8 → getD (withRemoval s m) (135 + i) 0 ≡ getD (removalHead m) i 0
+  unfolding withRemoval r1 r2 r3
+  head-back i h =
+      sets-below (r3 s m) (m .result) 175 (135 + i) (omega arith)
+      ∙ sets-below (r2 s m) (m .size) 159 (135 + i) (omega arith)
+      ∙ sets-below (r1 s m) (m .address) 143 (135 + i) (omega arith)
+      ∙ sets-at s (removalHead m) 135 i h (omega arith)
+
+  address-back : (i : ℕ) → i < 16 → getD (withRemoval s m) (143 + i) 0 ≡ getD (m .address) i 0
+  unfolding withRemoval r2 r3 r1
+  address-back i h =
+      sets-below (r3 s m) (m .result) 175 (143 + i) (omega arith)
+      ∙ sets-below (r2 s m) (m .size) 159 (143 + i) (omega arith)
+      ∙ sets-at (r1 s m) (m .address) 143 i (omega (arith, a .addresses)) (omega (arith, a .addresses, q1))
+
+  size-back : (i : ℕ) → i < 16 → getD (withRemoval s m) (159 + i) 0 ≡ getD (m .size) i 0
+  unfolding withRemoval r2 r3 r1
+  size-back i h =
+      sets-below (r3 s m) (m .result) 175 (159 + i) (omega arith)
+      ∙ sets-at (r2 s m) (m .size) 159 i (omega (arith, a .sizes)) (omega (arith, a .sizes, q2))
+
+  result-back : (i : ℕ) → i < 16 → getD (withRemoval s m) (175 + i) 0 ≡ getD (m .result) i 0
+  unfolding withRemoval r2 r3 r1
+  result-back i h =
+      sets-at (r3 s m) (m .result) 175 i (omega (arith, a .results)) (omega (arith, a .results, q3))
+
+  pub removal-back : removalOf (withRemoval s m) ≡ m
+  unfolding removalOf
+  removal-back =
+      rw (
+        sixteen (withRemoval s m) (m .address) 143 (a .addresses) address-back,
+        sixteen (withRemoval s m) (m .size) 159 (a .sizes) size-back,
+        sixteen (withRemoval s m) (m .result) 175 (a .results) result-back,
+        head-back 1 (omega arith),
+        head-back 2 (omega arith),
+        head-back 3 (omega arith),
+        head-back 4 (omega arith),
+        head-back 5 (omega arith),
+        head-back 6 (omega arith),
+        head-back 7 (omega arith),
+        flag-word (m .cancelled),
+      )
+
+-- what is loaded has arrays of sixteen
+pub loaded-arrays : (s : List ℕ) → Arrays (removalOf s)
+unfolding removalOf
+loaded-arrays s = record {
+  addresses = tabulate-length (λ (i : ℕ). getD s (143 + i) 0) 16;
+  sizes = tabulate-length (λ (i : ℕ). getD s (159 + i) 0) 16;
+  results = tabulate-length (λ (i : ℕ). getD s (175 + i) 0) 16;
+}
+
+-- equal words are the same removal
+pub removal-same : (s t : List ℕ) → Agree s t 135 191 → removalOf t ≡ removalOf s
+unfolding removalOf
+removal-same s t a =
+    rw (
+      a 136 (omega arith) (omega arith),
+      a 137 (omega arith) (omega arith),
+      a 138 (omega arith) (omega arith),
+      a 139 (omega arith) (omega arith),
+      a 140 (omega arith) (omega arith),
+      a 141 (omega arith) (omega arith),
+      a 142 (omega arith) (omega arith),
+      tabulate-same (λ i. getD s (143 + i) 0) (λ i. getD t (143 + i) 0) 16 0 (λ i h. a (143 + i) (omega arith) (omega arith)),
+      tabulate-same (λ i. getD s (159 + i) 0) (λ i. getD t (159 + i) 0) 16 0 (λ i h. a (159 + i) (omega arith) (omega arith)),
+      tabulate-same (λ i. getD s (175 + i) 0) (λ i. getD t (175 + i) 0) 16 0 (λ i h. a (175 + i) (omega arith) (omega arith)),
+    )
+
+-- no removal
+pub without-frame : (s : List ℕ) (j : ℕ) → j < 135 → getD (withoutRemoval s) j 0 ≡ getD s j 0
+unfolding withoutRemoval
+without-frame s j h = sets-below s (replicate 56 0) 135 j h
+
+pub without-length : (s : List ℕ) → length (withoutRemoval s) ≡ length s
+unfolding withoutRemoval
+without-length s = length-sets s 135 (replicate 56 0)
+
+pub without-outstanding : (s : List ℕ) → length s ≡ 191 → outstandingOf (withoutRemoval s) ≡ 0
+unfolding withoutRemoval
+without-outstanding s n = sets-at s (replicate 56 0) 135 0 (omega arith) (omega arith)
+
+-- a service's words, and the counts, as they then are
+module _ (s : List ℕ) (k stage handle minor : ℕ) (n : length s ≡ 191) (b : k < 16) where
+  pub service-word : (i : ℕ) → i < 3 → getD (withService s k stage handle minor) (4 + k * 3 + i) 0 ≡ getD (stage ∷ handle ∷ minor ∷ []) i 0
+  unfolding withService
+  service-word i h = sets-at s (stage ∷ handle ∷ minor ∷ []) (4 + k * 3) i h (omega arith)
+
+module _ (s : List ℕ) (last held : ℕ) (n : length s ≡ 191) where
+  pub last-counts : getD (withCounts s last held) 133 0 ≡ last
+  unfolding withCounts
+  last-counts = sets-at s (last ∷ held ∷ []) 133 0 (omega arith) (omega arith)
+
+  pub held-counts : getD (withCounts s last held) 134 0 ≡ held
+  unfolding withCounts
+  held-counts = sets-at s (last ∷ held ∷ []) 133 1 (omega arith) (omega arith)
+
+-- a channel's words as they then are
+module _ (s : List ℕ) (c ready : ℕ) (n : length s ≡ 191) (b : c < 4) where
+  pub channel-ready : getD (withChannel s c ready) c 0 ≡ ready
+  unfolding withChannel
+  channel-ready =
+      sets-below (set s c ready) (replicate 12 0) (4 + c * 12) c (omega arith) ∙ getD-set-same s c ready 0 (omega arith)
+
+  pub channel-zero : (i : ℕ) → i < 12 → getD (withChannel s c ready) (4 + c * 12 + i) 0 ≡ 0
+  unfolding withChannel
+  channel-zero i h =
+      sets-at (set s c ready) (replicate 12 0) (4 + c * 12) i (omega arith) (omega (arith, length-set s c ready))
+      ∙ getD-replicate 12 i 0 0 h
+
+pub configured-word : (s : List ℕ) (i flag : ℕ) → length s ≡ 191 → i < 16 → getD (withConfigured s i flag) (53 + i * 5 + 4) 0 ≡ flag
+unfolding withConfigured
+configured-word s i flag n h = getD-set-same s (53 + i * 5 + 4) flag 0 (omega arith)
