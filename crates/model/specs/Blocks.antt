@@ -7,7 +7,7 @@ use lib.ListN.{length, set, replicate}
 use lib.Seq.{sets}
 use lib.Dec.{leb, ltb, eqb}
 use Rattle.model.specs.Choice.{pick, _and_, every}
-use Rattle.model.specs.Layout.{Block, blockIn, blockAt, blocksOf, stateWords}
+use Rattle.model.specs.Layout.{Block, blockIn, blockAt, blocksOf, stateWords, blockCountWord, firstBlockWord}
 
 -- "A page is 8,192 bytes."
 abbrev pub pageSize : ℕ
@@ -20,14 +20,14 @@ abbrev pub endOf : Block → ℕ
 endOf b = b .base + sizeOf b
 
 -- "Base is a multiple of 8,192; pages 1 to 1,048,576; the end is at most 2^63; each base is at or above the end before it; first plus
--- count of permanent pages is at most pages; count 0 needs first 0; a count above 0 needs configured 1."
+-- count of permanent pages is at most pages; count 0 needs first 0; a count above 0 needs configured 1." The floor is the end before it.
 unfoldable pub blockKeeps : Block → ℕ → Bool
-blockKeeps b endBefore =
+blockKeeps b floor =
     eqb (b .base % pageSize) 0
     and leb 1 (b .pages)
     and leb (b .pages) 1048576
     and leb (endOf b) 9223372036854775808
-    and leb endBefore (b .base)
+    and leb floor (b .base)
     and leb (b .first + b .permanent) (b .pages)
     and leb (b .configured) 1
     and pick (eqb (b .permanent) 0) (eqb (b .first) 0) (eqb (b .configured) 1)
@@ -47,7 +47,7 @@ acceptedList l = eqb (length l % 5) 0 and blocksKeep l 0 (length l / 5)
 
 -- "Setup leaves all channels closed, nothing outstanding, the journal empty."
 unfoldable pub setupState : List ℕ → List ℕ
-setupState l = sets (set (replicate stateWords 0) 52 (length l / 5)) 53 l
+setupState l = sets (set (replicate stateWords 0) blockCountWord (length l / 5)) firstBlockWord l
 
 -- "A pair names a block if addr is its base and size is all of it."
 unfoldable pub names : ℕ → ℕ → Block → Bool

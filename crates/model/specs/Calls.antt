@@ -27,8 +27,8 @@ use Rattle.model.specs.State.{sound}
 use Rattle.model.specs.Refusals.{refusalOf, drainRefusal}
 use Rattle.model.specs.Journal.{
   Event,
-  isDelivered,
-  dataRefused,
+  deliveredEvent,
+  dataRefusedEvent,
   entryOf,
   stored,
   entriesAt,
@@ -80,7 +80,7 @@ pub record Outcome : Type 0 where
   pub journal : List ℕ
   pub buffer : List ℕ
 
--- "A refusal returns its number, the state it was given and reply length 0, and writes nothing anywhere."
+-- "A refusal returns its number, the state it was given .. and reply length 0, and writes nothing anywhere."
 unfoldable pub refused : List ℕ → List ℕ → List ℕ → ℕ → Outcome
 refused s j buffer n = record { refusal = n; count = 0; pages = 0; state = s; journal = j; buffer = buffer }
 
@@ -107,10 +107,10 @@ unfoldable pub dataFor : List ℕ → ℕ → ℕ → List ℕ → ℕ → Effec
 dataFor s c handle payload v =
     pick (eqb v 0) (answeredMemory s c handle payload)
     (pick (ltb v 4)
-    (effect (isDelivered c v) s [])
-    (effect (dataRefused c handle) s (nack handle DS-INV-HDL)))
+    (effect (deliveredEvent c v) s [])
+    (effect (dataRefusedEvent c handle) s (nack handle DS-INV-HDL)))
 
--- what a well-formed message does on a channel that hears it
+-- what a message does on a channel that hears it; none hears `Bad`
 unfoldable pub heard : List ℕ → ℕ → List ℕ → Message → Effect
 heard s c m (InitReq major) = initiated s c major
 heard s c m (RegReq handle) = noting s c DS-REG-REQ (regNack handle DS-REG-VER-NACK 0)
@@ -180,7 +180,7 @@ outcome s j (work budget out) =
     decided s j out (refusalOf s (length j) (length out) (leb 1 budget and leb budget 65535) (canWork s)) (working s budget)
 outcome s j (drain run) = draining s j run (drainRefusal s (length j))
 
--- Setup: "7 the list is not whole blocks or breaks a rule"; refused, it gives the state of the empty list.
+-- Setup: 7 where "the list is not whole blocks or breaks a rule above"; refused, it gives the state of the empty list.
 unfoldable pub started : List ℕ → Started
 started l =
     pick (acceptedList l)

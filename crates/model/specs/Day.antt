@@ -7,7 +7,7 @@ use mathlib.Core.List.{List, [], _∷_, _++_}
 use lib.ListN.{getD, take, drop, replicate}
 use Rattle.wire.specs.BigEndian.{bytesOf}
 use Rattle.model.specs.Journal.{wordsOf}
-use Rattle.model.specs.Messages.{DS-INIT-REQ, DS-REG-ACK, message, data-message}
+use Rattle.model.specs.Messages.{DS-INIT-REQ, DS-REG-ACK, dsMessage, dsData}
 use Rattle.model.specs.Memory.{DR-MEM-UNCONFIGURE, DR-MEM-QUERY}
 use Rattle.model.specs.Calls.{Call, receive, offer, work, drain, Outcome, outcome, started}
 use Rattle.model.specs.Demand3.{Run, next, runs, start}
@@ -20,19 +20,19 @@ abbrev pub dayOutput : List ℕ
 dayOutput = replicate 672 0
 
 abbrev pub initReqOf : ℕ → ℕ → List ℕ
-initReqOf major minor = message DS-INIT-REQ (bytesOf 2 major ++ bytesOf 2 minor)
+initReqOf major minor = dsMessage DS-INIT-REQ (bytesOf 2 major ++ bytesOf 2 minor)
 
 -- one record of addr and size in a memory request under handle 2
 abbrev pub requestUnder2 : ℕ → ℕ → ℕ → ℕ → List ℕ
 requestUnder2 type request addr size =
-    data-message 2 (bytesOf 4 type ++ bytesOf 4 1 ++ bytesOf 8 request ++ bytesOf 8 addr ++ bytesOf 8 size)
+    dsData 2 (bytesOf 4 type ++ bytesOf 4 1 ++ bytesOf 8 request ++ bytesOf 8 addr ++ bytesOf 8 size)
 
 -- "Channel 2: INIT_REQ 1.0; offer dr-mem; REG_ACK 2, minor 0; UNCONFIGURE A, req 9; work 3, 3, 1", a drain, QUERY B, INIT_REQ 3.0
 abbrev pub dayCalls : List Call
 dayCalls =
     receive 2 (initReqOf 1 0) dayOutput
     ∷ offer 2 0 dayOutput
-    ∷ receive 2 (message DS-REG-ACK (bytesOf 8 2 ++ bytesOf 2 0)) dayOutput
+    ∷ receive 2 (dsMessage DS-REG-ACK (bytesOf 8 2 ++ bytesOf 2 0)) dayOutput
     ∷ receive 2 (requestUnder2 DR-MEM-UNCONFIGURE 9 0x10000000 0x8000) dayOutput
     ∷ work 3 dayOutput
     ∷ work 3 dayOutput

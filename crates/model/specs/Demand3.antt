@@ -1,6 +1,6 @@
 -- Demand 3: "a single claim about the whole list of calls, not one for each".
 -- A message is any list of numbers, each read as a byte; journals, runs and block lists are any lists; channels, services and budgets
--- any numbers. Nothing else is asked.
+-- any numbers. Nothing is asked but that setup accepts the block list.
 -- Assumes nothing.
 use Prim.Native.Nat.{ℕ, zero, suc, _+_, _-_, _*_, _≤_, _<_}
 use mathlib.Core.Path.{_≡_}
@@ -8,14 +8,14 @@ use mathlib.Core.Bool.{Bool, true, false, not}
 use mathlib.Core.List.{List, [], _∷_, _++_}
 use lib.ListN.{length, getD, take}
 use lib.Dec.{eqb, leb}
+use Rattle.wire.specs.BigEndian.{numberAt}
 use Rattle.entry.specs.declared.Fields.{Fields}
 use Rattle.entry.specs.Word.{unpacked}
 use Rattle.model.specs.Choice.{pick, _and_, _or_}
-use Rattle.model.specs.declared.Message.the-variants.{Data}
 use Rattle.model.specs.Layout.{lastOf, heldOf, placeOf}
 use Rattle.model.specs.Blocks.{acceptedList}
 use Rattle.model.specs.Journal.{Entry, entryAt, entriesAt, entriesIn}
-use Rattle.model.specs.Messages.{DS-INV-HDL, decoded, nack}
+use Rattle.model.specs.Messages.{DS-INV-HDL, DS-DATA, typeOf, payloadLength, nack}
 use Rattle.model.specs.Calls.{Call, receive, offer, withdraw, close, work, drain, Outcome, outcome, started}
 use Rattle.model.specs.Reading.{View, Stage, idle, offered, registered, viewOf, setupView, reading}
 
@@ -72,42 +72,61 @@ entries u =
 abbrev pub noEntry : Entry
 noEntry = record { first = 0; second = 0 }
 
--- Data "has reached" service v "if the reply is not the NACK named next and its entry is of kind 8, or of 10 to 13 for service 0".
 unfoldable pub sameBytes : List ℕ → List ℕ → Bool
 sameBytes [] [] = true
 sameBytes [] (y ∷ ys) = false
 sameBytes (x ∷ xs) [] = false
 sameBytes (x ∷ xs) (y ∷ ys) = eqb x y and sameBytes xs ys
 
-unfoldable pub kindReaches : ℕ → Fields → Bool
-kindReaches v e =
-    pick (eqb v 0)
-    (leb 10 (e .kind) and leb (e .kind) 13 and eqb (e .service) 0)
-    (eqb (e .kind) 8 and eqb (e .service) v)
+-- the reply of an outcome, and the fields of its entry
+unfoldable pub replyOf : Outcome → List ℕ
+replyOf r = take (r .count) (r .buffer)
 
--- the outcome r of a receive of data under this handle says so: by its reply, and by the entry of its number
-unfoldable pub reached : ℕ → ℕ → Outcome → Bool
-reached v handle r =
-    not (sameBytes (take (r .count) (r .buffer)) (nack handle DS-INV-HDL))
-    and kindReaches v (unpacked (entryAt (r .journal) (lastOf (r .state)) .first))
+unfoldable pub noted : Outcome → Fields
+noted r = unpacked (entryAt (r .journal) (lastOf (r .state)) .first)
+
+-- Data "has reached it if the reply is not the NACK named next and its entry is of kind 8, or of 10 to 13 for service 0".
+unfoldable pub reached : ℕ → Outcome → Bool
+reached handle r =
+    not (sameBytes (replyOf r) (nack handle DS-INV-HDL))
+    and (eqb (noted r .kind) 8 or (leb 10 (noted r .kind) and leb (noted r .kind) 13))
+
+-- it has reached service v: its entry is of kind 8 and this service, or of 10 to 13 for service 0
+unfoldable pub reachedService : ℕ → ℕ → Outcome → Bool
+reachedService v handle r =
+    reached handle r
+    and pick (eqb v 0) (leb 10 (noted r .kind)) (eqb (noted r .kind) 8 and eqb (noted r .service) v)
 
 -- a view shows the handle registered on a channel for service v
-unfoldable pub isRegisteredAs : ℕ → Stage → Bool
-isRegisteredAs handle idle = false
-isRegisteredAs handle (offered h) = false
-isRegisteredAs handle (registered h minor) = eqb h handle
+unfoldable pub showsHandle : ℕ → Stage → Bool
+showsHandle handle idle = false
+showsHandle handle (offered h) = false
+showsHandle handle (registered h minor) = eqb h handle
 
-unfoldable pub showsRegistered : View → ℕ → ℕ → ℕ → Bool
-showsRegistered view c handle v = isRegisteredAs handle (getD (view .services) (placeOf c v) idle)
+unfoldable pub showsService : View → ℕ → ℕ → ℕ → Bool
+showsService view c handle v = showsHandle handle (getD (view .services) (placeOf c v) idle)
 
--- "In each accepted receive of the list, well-formed data reaches a service exactly when that reading, made just before the call, shows
--- its handle registered on that channel": here for each of the four services by itself.
-pub record Delivers (l : List ℕ) (u : Run) (c handle : ℕ) (m out : List ℕ) : Type 0 where
-  pub exactly :
-      (v : ℕ) →
-      v < 4 →
-      reached v handle (outcome (u .state) (u .journal) (receive c m out))
-      ≡ showsRegistered (reading (setupView l) (entries u)) c handle v
+-- a view shows it registered on that channel
+unfoldable pub showsRegistered : View → ℕ → ℕ → Bool
+showsRegistered view c handle =
+    showsService view c handle 0
+    or showsService view c handle 1
+    or showsService view c handle 2
+    or showsService view c handle 3
+
+-- well-formed data under a handle, by its bytes
+pub record WellFormedData (m : List ℕ) (handle : ℕ) : Type 0 where
+  pub whole : length m ≡ 8 + payloadLength m
+  pub bounded : payloadLength m ≤ 4096
+  pub isData : typeOf m ≡ DS-DATA
+  pub hasHandle : 8 ≤ payloadLength m
+  pub under : numberAt m 8 8 ≡ handle
+
+-- "well-formed data reaches a service exactly when that reading, made just before the call, shows its handle registered on that channel",
+-- and the service that it reaches is that one
+pub record Delivers (view : View) (c handle : ℕ) (r : Outcome) : Type 0 where
+  pub exactly : reached handle r ≡ showsRegistered view c handle
+  pub thatOne : (v : ℕ) → v < 4 → reachedService v handle r ≡ showsService view c handle v
 
 -- Demand 3, of an accepted block list l, a first journal j and a list of calls.
 pub record Demand3 (l j : List ℕ) (calls : List Call) (u : Run) : Type 0 where
@@ -119,13 +138,17 @@ pub record Demand3 (l j : List ℕ) (calls : List Call) (u : Run) : Type 0 where
   pub atMost : heldOf (u .state) ≤ 64
   -- "Read with that block list alone by 01's rules, they give back .. exactly as the last state has them."
   pub reads : reading (setupView l) (entries u) ≡ viewOf (u .state)
-  -- the data clause, at each place of the same list
+  -- "In each accepted receive of the list ..": at each place of the same list
   pub delivers :
       (before later : List Call) (c handle : ℕ) (m out : List ℕ) →
       calls ≡ before ++ receive c m out ∷ later →
-      decoded m ≡ Data handle →
+      WellFormedData m handle →
       outcome (runs (start l j) before .state) (runs (start l j) before .journal) (receive c m out) .refusal ≡ 0 →
-      Delivers l (runs (start l j) before) c handle m out
+      Delivers
+      (reading (setupView l) (entries (runs (start l j) before)))
+      c
+      handle
+      (outcome (runs (start l j) before .state) (runs (start l j) before .journal) (receive c m out))
 
 -- the claim: any accepted block list, any first journal, any list of calls
 abbrev pub Demand3Holds : Type 0

@@ -7,7 +7,7 @@ use mathlib.Core.List.{List, [], _∷_, _++_}
 use lib.ListN.{length, getD, drop, take}
 use Rattle.entry.specs.declared.Fields.{Fields}
 use Rattle.entry.specs.Word.{unpacked}
-use Rattle.model.specs.Layout.{stateWords, lastOf, heldOf}
+use Rattle.model.specs.Layout.{stateWords, lastOf, heldOf, withCounts}
 use Rattle.model.specs.Blocks.{acceptedList}
 use Rattle.model.specs.State.{sound}
 use Rattle.model.specs.Journal.{slotOf, entriesAt, wordsOf, entryAt}
@@ -33,8 +33,8 @@ bufferOf (close c out) = out
 bufferOf (work budget out) = out
 bufferOf (drain run) = run
 
--- "A refusal returns its number, the state it was given and reply length 0, and writes nothing anywhere."
-pub record Unchanged (s j : List ℕ) (call : Call) (r : Outcome) : Type 0 where
+-- "A refusal returns its number, the state it was given .. and reply length 0, and writes nothing anywhere."
+pub record RefusalKept (s j : List ℕ) (call : Call) (r : Outcome) : Type 0 where
   pub sameState : r .state ≡ s
   pub sameJournal : r .journal ≡ j
   pub sameBuffer : r .buffer ≡ bufferOf call
@@ -42,7 +42,7 @@ pub record Unchanged (s j : List ℕ) (call : Call) (r : Outcome) : Type 0 where
   pub noPages : r .pages ≡ 0
 
 -- "An accepted call writes its reply at the start of the output, touches no output byte beyond it, and adds one entry": in its own slot.
-pub record Added (s j : List ℕ) (call : Call) (r : Outcome) : Type 0 where
+pub record EntryAdded (s j : List ℕ) (call : Call) (r : Outcome) : Type 0 where
   pub lastNext : lastOf (r .state) ≡ lastOf s + 1
   pub heldNext : heldOf (r .state) ≡ heldOf s + 1
   pub numberNext : unpacked (entryAt (r .journal) (lastOf s + 1) .first) .number ≡ lastOf s + 1
@@ -57,37 +57,36 @@ pub record Added (s j : List ℕ) (call : Call) (r : Outcome) : Type 0 where
   pub restOfOutput : drop (r .count) (r .buffer) ≡ drop (r .count) (bufferOf call)
 
 -- "Drain copies the oldest entries to the start of a lent word run .., forgets them, .. adds none, and touches no other word."
-pub record Removed (s j : List ℕ) (run : List ℕ) (r : Outcome) : Type 0 where
+pub record DrainKept (s j : List ℕ) (run : List ℕ) (r : Outcome) : Type 0 where
   pub sameJournal : r .journal ≡ j
-  pub sameLast : lastOf (r .state) ≡ lastOf s
-  pub heldLess : heldOf (r .state) + r .count ≡ heldOf s
+  pub heldLess : r .state ≡ withCounts s (lastOf s) (heldOf s - r .count)
   pub whole : r .count ≡ min (heldOf s) (length run / 2)
   pub sameRun : length (r .buffer) ≡ length run
   pub oldest : take (r .count * 2) (r .buffer) ≡ wordsOf (entriesAt j (lastOf s - heldOf s + 1) (r .count))
   pub restOfRun : drop (r .count * 2) (r .buffer) ≡ drop (r .count * 2) run
 
 -- a call that is no drain
-unfoldable pub Records : Call → Type 0
-Records (receive c m out) = Unit {0}
-Records (offer c v out) = Unit {0}
-Records (withdraw c v out) = Unit {0}
-Records (close c out) = Unit {0}
-Records (work budget out) = Unit {0}
-Records (drain run) = ⊥
+unfoldable pub IsNoDrain : Call → Type 0
+IsNoDrain (receive c m out) = Unit {0}
+IsNoDrain (offer c v out) = Unit {0}
+IsNoDrain (withdraw c v out) = Unit {0}
+IsNoDrain (close c out) = Unit {0}
+IsNoDrain (work budget out) = Unit {0}
+IsNoDrain (drain run) = ⊥
 
 pub record CallsKept : Type 0 where
   pub refusal :
       (s j : List ℕ) (call : Call) →
       (outcome s j call .refusal ≡ 0 → ⊥) →
-      Unchanged s j call (outcome s j call)
+      RefusalKept s j call (outcome s j call)
   pub adds :
       (s j : List ℕ) (call : Call) →
       length s ≡ stateWords →
-      Records call →
+      IsNoDrain call →
       outcome s j call .refusal ≡ 0 →
-      Added s j call (outcome s j call)
+      EntryAdded s j call (outcome s j call)
   pub removes :
       (s j run : List ℕ) →
       length s ≡ stateWords →
       outcome s j (drain run) .refusal ≡ 0 →
-      Removed s j run (outcome s j (drain run))
+      DrainKept s j run (outcome s j (drain run))

@@ -25,13 +25,21 @@ use Rattle.model.specs.declared.Removal.{Removal}
 abbrev pub stateWords : ℕ
 stateWords = 191
 
+-- where the blocks' number and their words stand
+abbrev pub blockCountWord : ℕ
+blockCountWord = 52
+
+abbrev pub firstBlockWord : ℕ
+firstBlockWord = 53
+
 abbrev pub readyAt : List ℕ → ℕ → ℕ
 readyAt s c = getD s c 0
 
--- the three words of service v of channel c, at k = c * 4 + v
+-- service v of channel c is service k = c * 4 + v of the sixteen
 abbrev pub placeOf : ℕ → ℕ → ℕ
 placeOf c v = c * 4 + v
 
+-- the three words of service k
 abbrev pub stageAt : List ℕ → ℕ → ℕ
 stageAt s k = getD s (4 + k * 3) 0
 
@@ -42,7 +50,7 @@ abbrev pub minorAt : List ℕ → ℕ → ℕ
 minorAt s k = getD s (6 + k * 3) 0
 
 abbrev pub blocksOf : List ℕ → ℕ
-blocksOf s = getD s 52 0
+blocksOf s = getD s blockCountWord 0
 
 abbrev pub lastOf : List ℕ → ℕ
 lastOf s = getD s 133 0
@@ -76,7 +84,7 @@ blockIn l at i = record {
 
 -- block i of the state
 abbrev pub blockAt : List ℕ → ℕ → Block
-blockAt s i = blockIn s 53 i
+blockAt s i = blockIn s firstBlockWord i
 
 -- a word as a test, and a test as a word
 abbrev pub isSet : ℕ → Bool

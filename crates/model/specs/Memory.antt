@@ -21,8 +21,8 @@ use Rattle.model.specs.Layout.{
   withRemoval,
 }
 use Rattle.model.specs.Blocks.{pageSize, namedBlock, isNamed}
-use Rattle.model.specs.Journal.{isAnswered, isConfigured, isBegun, isCancelled}
-use Rattle.model.specs.Messages.{Effect, effect, data-message}
+use Rattle.model.specs.Journal.{answeredEvent, configuredEvent, begunEvent, cancelledEvent}
+use Rattle.model.specs.Messages.{Effect, effect, dsData}
 
 -- Types of messages.
 abbrev pub DR-MEM-CONFIGURE : ℕ
@@ -115,19 +115,19 @@ requestOf b =
 -- "Replies travel as DATA under the same handle."
 unfoldable pub memoryReply : ℕ → ℕ → ℕ → ℕ → List ℕ → List ℕ
 memoryReply handle type argument request records =
-    data-message handle (bytesOf 4 type ++ bytesOf 4 argument ++ bytesOf 8 request ++ records)
+    dsData handle (bytesOf 4 type ++ bytesOf 4 argument ++ bytesOf 8 request ++ records)
 
 -- "status after the request (0 unknown, 1 unconfigured, 2 configured)"
 unfoldable pub statusOf : List ℕ → ℕ → ℕ → ℕ
 statusOf s addr size =
     pick (isNamed s addr size) (pick (eqb (blockAt s (namedBlock s addr size) .configured) 1) 2 1) 0
 
--- "Result records have 28 bytes: addr, size, result, status after the request, string offset 0."
+-- "Result records have 28 bytes: addr, size, result, status after the request .., string offset 0."
 unfoldable pub resultRecord : List ℕ → ℕ → ℕ → ℕ → List ℕ
 resultRecord s addr size result =
     bytesOf 8 addr ++ bytesOf 8 size ++ bytesOf 4 result ++ bytesOf 4 (statusOf s addr size) ++ bytesOf 4 0
 
--- "all three 0 if none. An unknown block counts as wholly permanent: size, addr, addr + size − 1 wrapped at 2^64; size 0 gives three zeros."
+-- "An unknown block counts as wholly permanent": its permanent bytes, and the first permanent address
 unfoldable pub permanentBytes : List ℕ → ℕ → ℕ → ℕ
 permanentBytes s addr size =
     pick (isNamed s addr size) (blockAt s (namedBlock s addr size) .permanent * pageSize) size
@@ -138,24 +138,25 @@ permanentFirst s addr size =
     (blockAt s (namedBlock s addr size) .base + blockAt s (namedBlock s addr size) .first * pageSize)
     addr
 
--- "QUERY, 40 bytes a record: addr, size, permanent bytes, first and last permanent address (last byte)"
+-- "all three 0 if none. .. size, addr, addr + size − 1 wrapped at 2^64; size 0 gives three zeros."
 unfoldable pub permanentRange : ℕ → ℕ → List ℕ
 permanentRange bytes first =
     pick (eqb bytes 0)
     (bytesOf 8 0 ++ bytesOf 8 0 ++ bytesOf 8 0)
     (bytesOf 8 bytes ++ bytesOf 8 first ++ bytesOf 8 ((first + bytes - 1) % 2 ^ 64))
 
+-- "QUERY, 40 bytes a record: addr, size, permanent bytes, first and last permanent address (last byte)"
 unfoldable pub queryRecord : List ℕ → ℕ → ℕ → List ℕ
 queryRecord s addr size =
     bytesOf 8 addr ++ bytesOf 8 size ++ permanentRange (permanentBytes s addr size) (permanentFirst s addr size)
 
 -- a request that changes nothing, answered
 unfoldable pub answering : List ℕ → ℕ → ℕ → ℕ → List ℕ → Effect
-answering s c code request reply = effect (isAnswered c code request) s reply
+answering s c code request reply = effect (answeredEvent c code request) s reply
 
--- "ERROR 0x65, argument 0, the same req_num, no more"
-unfoldable pub malformed : List ℕ → ℕ → ℕ → ℕ → Effect
-malformed s c handle request = answering s c 1 request (memoryReply handle DR-MEM-ERROR 0 request [])
+-- "ERROR 0x65, argument 0, the same req_num .., no more."
+unfoldable pub answeringError : List ℕ → ℕ → ℕ → ℕ → Effect
+answeringError s c handle request = answering s c 1 request (memoryReply handle DR-MEM-ERROR 0 request [])
 
 -- "CONFIGURE or UNCONFIGURE while a removal is outstanding: every record BLOCKED (2)."
 unfoldable pub blocked : List ℕ → ℕ → ℕ → ℕ → List ℕ → ℕ → Effect
@@ -165,13 +166,13 @@ blocked s c handle request b n =
     (joined (λ i. resultRecord s (addrIn b i) (sizeIn b i) DR-MEM-RES-BLOCKED) n))
 
 -- CONFIGURE after some of its records: the state, the blocks configured (bit i for block i), whether one was unknown, and the results
-pub record Configuring : Type 0 where
+pub record Progress : Type 0 where
   pub state : List ℕ
   pub mask : ℕ
   pub failed : Bool
   pub results : List ℕ
 
-unfoldable pub oneFailed : Configuring → Configuring
+unfoldable pub oneFailed : Progress → Progress
 oneFailed p = record {
   state = p .state;
   mask = p .mask;
@@ -179,7 +180,7 @@ oneFailed p = record {
   results = p .results ++ (DR-MEM-RES-FAILURE ∷ []);
 }
 
-unfoldable pub oneConfigured : Configuring → ℕ → Configuring
+unfoldable pub oneConfigured : Progress → ℕ → Progress
 oneConfigured p i = record {
   state = withConfigured (p .state) i 1;
   mask = p .mask + 2 ^ i;
@@ -187,7 +188,7 @@ oneConfigured p i = record {
   results = p .results ++ (DR-MEM-RES-OK ∷ []);
 }
 
-unfoldable pub oneUnchanged : Configuring → Configuring
+unfoldable pub oneUnchanged : Progress → Progress
 oneUnchanged p = record {
   state = p .state;
   mask = p .mask;
@@ -196,7 +197,7 @@ oneUnchanged p = record {
 }
 
 -- "unconfigured gives OK (0) and configures, configured gives NOWORK (4), unknown gives FAILURE (1) and so does every record after it"
-unfoldable pub configureOne : Configuring → ℕ → ℕ → Configuring
+unfoldable pub configureOne : Progress → ℕ → ℕ → Progress
 configureOne p addr size =
     pick (p .failed) (oneFailed p)
     (pick (isNamed (p .state) addr size)
@@ -206,21 +207,21 @@ configureOne p addr size =
     (oneFailed p))
 
 -- "CONFIGURE: in order": after the first n records
-unfoldable pub configuredBy : List ℕ → List ℕ → ℕ → Configuring
+unfoldable pub configuredBy : List ℕ → List ℕ → ℕ → Progress
 configuredBy s b zero = record { state = s; mask = 0; failed = false; results = [] }
 configuredBy s b (suc n) = configureOne (configuredBy s b n) (addrIn b n) (sizeIn b n)
 
-unfoldable pub configureReply : Configuring → ℕ → ℕ → List ℕ → ℕ → List ℕ
+unfoldable pub configureReply : Progress → ℕ → ℕ → List ℕ → ℕ → List ℕ
 configureReply p handle request b n =
     memoryReply handle DR-MEM-OK n request
     (joined (λ i. resultRecord (p .state) (addrIn b i) (sizeIn b i) (getD (p .results) i 0)) n)
 
 -- kind 11 where a block was configured, else kind 10
-unfoldable pub configuring : Configuring → ℕ → ℕ → ℕ → List ℕ → ℕ → Effect
-configuring p c handle request b n =
+unfoldable pub answeringConfigure : Progress → ℕ → ℕ → ℕ → List ℕ → ℕ → Effect
+answeringConfigure p c handle request b n =
     pick (eqb (p .mask) 0)
     (answering (p .state) c 0 request (configureReply p handle request b n))
-    (effect (isConfigured c (p .mask)) (p .state) (configureReply p handle request b n))
+    (effect (configuredEvent c (p .mask)) (p .state) (configureReply p handle request b n))
 
 -- "UNCONFIGURE is begun; its reply comes from work."
 unfoldable pub begun : ℕ → ℕ → ℕ → List ℕ → ℕ → Removal
@@ -238,9 +239,9 @@ begun c handle request b n = record {
 }
 
 unfoldable pub beginning : List ℕ → ℕ → ℕ → ℕ → List ℕ → ℕ → Effect
-beginning s c handle request b n = effect (isBegun c n request) (withRemoval s (begun c handle request b n)) []
+beginning s c handle request b n = effect (begunEvent c n request) (withRemoval s (begun c handle request b n)) []
 
--- "QUERY, 40 bytes a record"
+-- QUERY changes nothing
 unfoldable pub querying : List ℕ → ℕ → ℕ → ℕ → List ℕ → ℕ → Effect
 querying s c handle request b n =
     answering s c 0 request
@@ -280,7 +281,7 @@ marked m = record {
 unfoldable pub cancelling : List ℕ → ℕ → ℕ → ℕ → Effect
 cancelling s c handle request =
     pick (isSet (outstandingOf s) and not (removalOf s .cancelled))
-    (effect (isCancelled c request)
+    (effect (cancelledEvent c request)
     (withRemoval s (marked (removalOf s)))
     (memoryReply handle DR-MEM-OK 0 request []))
     (answering s c 0 request (memoryReply handle DR-MEM-OK 0 request []))
@@ -289,13 +290,13 @@ unfoldable pub requested : List ℕ → ℕ → ℕ → ℕ → List ℕ → Req
 requested s c handle request b (Configure n) =
     pick (isSet (outstandingOf s))
     (blocked s c handle request b n)
-    (configuring (configuredBy s b n) c handle request b n)
+    (answeringConfigure (configuredBy s b n) c handle request b n)
 requested s c handle request b (Unconfigure n) =
     pick (isSet (outstandingOf s)) (blocked s c handle request b n) (beginning s c handle request b n)
 requested s c handle request b (Query n) = querying s c handle request b n
 requested s c handle request b Status = reporting s c handle request
 requested s c handle request b Cancel = cancelling s c handle request
-requested s c handle request b Malformed = malformed s c handle request
+requested s c handle request b Malformed = answeringError s c handle request
 
 -- what the memory service does with the bytes b under a handle of channel c
 unfoldable pub answeredMemory : List ℕ → ℕ → ℕ → List ℕ → Effect

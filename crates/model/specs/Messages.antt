@@ -23,14 +23,14 @@ use Rattle.model.specs.declared.Message.the-variants.{
 use Rattle.model.specs.Layout.{readyAt, placeOf, stageAt, handleAt, lastOf, withChannel, withService}
 use Rattle.model.specs.Journal.{
   Event,
-  isReady,
-  isClosed,
-  versionRefused,
-  isOffered,
-  isRegistered,
-  offerRefused,
-  isEnded,
-  isNoted,
+  readyEvent,
+  closedEvent,
+  versionRefusedEvent,
+  offeredEvent,
+  registeredEvent,
+  offerRefusedEvent,
+  serviceEndedEvent,
+  notedEvent,
 }
 
 -- "Four services, from a table": id with its zero, major and minor version
@@ -103,8 +103,8 @@ abbrev pub DS-INV-HDL : ℕ
 DS-INV-HDL = 3
 
 -- "Header: type (4), payload_len (4)."
-unfoldable pub message : ℕ → List ℕ → List ℕ
-message type payload = bytesOf 4 type ++ bytesOf 4 (length payload) ++ payload
+unfoldable pub dsMessage : ℕ → List ℕ → List ℕ
+dsMessage type payload = bytesOf 4 type ++ bytesOf 4 (length payload) ++ payload
 
 abbrev pub typeOf : List ℕ → ℕ
 typeOf m = numberAt m 0 4
@@ -115,41 +115,41 @@ payloadLength m = numberAt m 4 4
 -- The messages that the agent sends.
 -- minor_vers
 unfoldable pub initAck : ℕ → List ℕ
-initAck minor = message DS-INIT-ACK (bytesOf 2 minor)
+initAck minor = dsMessage DS-INIT-ACK (bytesOf 2 minor)
 
 -- major_vers
 unfoldable pub initNack : ℕ → List ℕ
-initNack major = message DS-INIT-NACK (bytesOf 2 major)
+initNack major = dsMessage DS-INIT-NACK (bytesOf 2 major)
 
 -- svc_handle, major_vers, minor_vers, svc_id
 unfoldable pub regReq : ℕ → Service → List ℕ
 regReq handle service =
-    message DS-REG-REQ
+    dsMessage DS-REG-REQ
     (bytesOf 8 handle ++ bytesOf 2 (service .major) ++ bytesOf 2 (service .minor) ++ service .id)
 
 -- svc_handle, result, major_vers
 unfoldable pub regNack : ℕ → ℕ → ℕ → List ℕ
-regNack handle result major = message DS-REG-NACK (bytesOf 8 handle ++ bytesOf 8 result ++ bytesOf 2 major)
+regNack handle result major = dsMessage DS-REG-NACK (bytesOf 8 handle ++ bytesOf 8 result ++ bytesOf 2 major)
 
 -- svc_handle
 unfoldable pub unreg : ℕ → List ℕ
-unreg handle = message DS-UNREG (bytesOf 8 handle)
+unreg handle = dsMessage DS-UNREG (bytesOf 8 handle)
 
 unfoldable pub unregAck : ℕ → List ℕ
-unregAck handle = message DS-UNREG-ACK (bytesOf 8 handle)
+unregAck handle = dsMessage DS-UNREG-ACK (bytesOf 8 handle)
 
 unfoldable pub unregNack : ℕ → List ℕ
-unregNack handle = message DS-UNREG-NACK (bytesOf 8 handle)
+unregNack handle = dsMessage DS-UNREG-NACK (bytesOf 8 handle)
 
 -- svc_handle, and what the service sends
-unfoldable pub data-message : ℕ → List ℕ → List ℕ
-data-message handle payload = message DS-DATA (bytesOf 8 handle ++ payload)
+unfoldable pub dsData : ℕ → List ℕ → List ℕ
+dsData handle payload = dsMessage DS-DATA (bytesOf 8 handle ++ payload)
 
 -- svc_handle, result
 unfoldable pub nack : ℕ → ℕ → List ℕ
-nack handle result = message DS-NACK (bytesOf 8 handle ++ bytesOf 8 result)
+nack handle result = dsMessage DS-NACK (bytesOf 8 handle ++ bytesOf 8 result)
 
--- "A message is well formed if it has 8 + payload_len bytes, payload_len is at most 4,096, and the payload fits its type"
+-- "it has 8 + payload_len bytes, payload_len is at most 4,096"
 unfoldable pub wholeMessage : List ℕ → Bool
 wholeMessage m = eqb (length m) (8 + payloadLength m) and leb (payloadLength m) 4096
 
@@ -161,26 +161,41 @@ idFits m =
     and eqb (byteAt m (payloadLength m + 7)) 0
     and every (payloadLength m - 13) (λ i. not (eqb (byteAt m (20 + i)) 0))
 
--- the message's type and length are these
-abbrev pub isOf : List ℕ → ℕ → ℕ → Bool
-isOf m type len = eqb (typeOf m) type and eqb (payloadLength m) len
+-- "the payload fits its type: INIT_REQ 0x0: 4; REG_REQ 0x3: ..; REG_ACK 0x4: 10; REG_NACK 0x5: 18; UNREG 0x6, UNREG_ACK 0x7, UNREG_NACK
+-- 0x8: 8; DATA 0x9: 8 or more; NACK 0xa: 16"
+unfoldable pub payloadFits : List ℕ → Bool
+payloadFits m =
+    pick (eqb (typeOf m) DS-INIT-REQ) (eqb (payloadLength m) 4)
+    (pick (eqb (typeOf m) DS-REG-REQ) (idFits m)
+    (pick (eqb (typeOf m) DS-REG-ACK) (eqb (payloadLength m) 10)
+    (pick (eqb (typeOf m) DS-REG-NACK) (eqb (payloadLength m) 18)
+    (pick (eqb (typeOf m) DS-UNREG) (eqb (payloadLength m) 8)
+    (pick (eqb (typeOf m) DS-UNREG-ACK) (eqb (payloadLength m) 8)
+    (pick (eqb (typeOf m) DS-UNREG-NACK) (eqb (payloadLength m) 8)
+    (pick (eqb (typeOf m) DS-DATA) (leb 8 (payloadLength m))
+    (pick (eqb (typeOf m) DS-NACK) (eqb (payloadLength m) 16)
+    false))))))))
 
+-- "A message is well formed if .."
+unfoldable pub wellFormed : List ℕ → Bool
+wellFormed m = wholeMessage m and payloadFits m
+
+-- each case of a message by its type, with its values
 unfoldable pub decodedByType : List ℕ → Message
 decodedByType m =
-    pick (isOf m DS-INIT-REQ 4) (InitReq (numberAt m 8 2))
-    (pick (eqb (typeOf m) DS-REG-REQ and idFits m) (RegReq (numberAt m 8 8))
-    (pick (isOf m DS-REG-ACK 10) (RegAck (numberAt m 8 8) (numberAt m 16 2))
-    (pick (isOf m DS-REG-NACK 18) (RegNack (numberAt m 8 8))
-    (pick (isOf m DS-UNREG 8) (Unreg (numberAt m 8 8))
-    (pick (isOf m DS-UNREG-ACK 8) UnregAck
-    (pick (isOf m DS-UNREG-NACK 8) UnregNack
-    (pick (eqb (typeOf m) DS-DATA and leb 8 (payloadLength m)) (Data (numberAt m 8 8))
-    (pick (isOf m DS-NACK 16) Nack
-    Bad))))))))
+    pick (eqb (typeOf m) DS-INIT-REQ) (InitReq (numberAt m 8 2))
+    (pick (eqb (typeOf m) DS-REG-REQ) (RegReq (numberAt m 8 8))
+    (pick (eqb (typeOf m) DS-REG-ACK) (RegAck (numberAt m 8 8) (numberAt m 16 2))
+    (pick (eqb (typeOf m) DS-REG-NACK) (RegNack (numberAt m 8 8))
+    (pick (eqb (typeOf m) DS-UNREG) (Unreg (numberAt m 8 8))
+    (pick (eqb (typeOf m) DS-UNREG-ACK) UnregAck
+    (pick (eqb (typeOf m) DS-UNREG-NACK) UnregNack
+    (pick (eqb (typeOf m) DS-DATA) (Data (numberAt m 8 8))
+    Nack)))))))
 
 -- the message that a list of bytes is
 unfoldable pub decoded : List ℕ → Message
-decoded m = pick (wholeMessage m) (decodedByType m) Bad
+decoded m = pick (wellFormed m) (decodedByType m) Bad
 
 -- What an accepted call does: what it notes, the state before the entry is counted, and the reply.
 pub record Effect : Type 0 where
@@ -191,7 +206,7 @@ pub record Effect : Type 0 where
 abbrev pub effect : Event → List ℕ → List ℕ → Effect
 effect e s reply = record { event = e; state = s; reply = reply }
 
--- "Handles below are those of this channel": the service of channel c with handle h that is offered, registered, or live; 4 if none is
+-- "Handles below are those of this channel": service v of channel c is offered, registered, or live under the handle h
 abbrev pub offeredAs : List ℕ → ℕ → ℕ → ℕ → Bool
 offeredAs s c h v = eqb (stageAt s (placeOf c v)) 1 and eqb (handleAt s (placeOf c v)) h
 
@@ -203,25 +218,25 @@ liveAs s c h v = not (eqb (stageAt s (placeOf c v)) 0) and eqb (handleAt s (plac
 
 -- the services of a channel become idle, and it is closed (by 0 the host, 1 a message)
 unfoldable pub closing : List ℕ → ℕ → ℕ → Effect
-closing s c by = effect (isClosed c by) (withChannel s c 0) []
+closing s c by = effect (closedEvent c by) (withChannel s c 0) []
 
 -- a message that changes nothing, with its reply if it has one
 unfoldable pub noting : List ℕ → ℕ → ℕ → List ℕ → Effect
-noting s c type reply = effect (isNoted c type) s reply
+noting s c type reply = effect (notedEvent c type) s reply
 
 -- "INIT_REQ, at any time: all services on the channel become idle. Major 1: ACK (0x1) with minor 0, channel ready. Otherwise NACK (0x2)
 -- with major 1 if a higher one was asked, 0 if 0 was asked; channel closed."
 unfoldable pub initiated : List ℕ → ℕ → ℕ → Effect
 initiated s c major =
     pick (eqb major 1)
-    (effect (isReady c) (withChannel s c 1) (initAck 0))
-    (effect (versionRefused c major) (withChannel s c 0) (initNack (pick (eqb major 0) 0 1)))
+    (effect (readyEvent c) (withChannel s c 1) (initAck 0))
+    (effect (versionRefusedEvent c major) (withChannel s c 0) (initNack (pick (eqb major 0) 0 1)))
 
 -- "REG_ACK for an offered handle registers it with the lower of the two minors .. Any other of these is only noted."
 unfoldable pub acknowledged : List ℕ → ℕ → ℕ → ℕ → ℕ → Effect
 acknowledged s c handle minor v =
     pick (ltb v 4)
-    (effect (isRegistered c v (min (serviceOf v .minor) minor) handle)
+    (effect (registeredEvent c v (min (serviceOf v .minor) minor) handle)
     (withService s (placeOf c v) 2 handle (min (serviceOf v .minor) minor))
     [])
     (noting s c DS-REG-ACK [])
@@ -230,22 +245,22 @@ acknowledged s c handle minor v =
 unfoldable pub notAcknowledged : List ℕ → ℕ → ℕ → Effect
 notAcknowledged s c v =
     pick (ltb v 4)
-    (effect (offerRefused c v) (withService s (placeOf c v) 0 0 0) [])
+    (effect (offerRefusedEvent c v) (withService s (placeOf c v) 0 0 0) [])
     (noting s c DS-REG-NACK [])
 
 -- "UNREG from the peer for a live handle (offered or registered) does so and replies UNREG_ACK, else UNREG_NACK."
 unfoldable pub unregistered : List ℕ → ℕ → ℕ → ℕ → Effect
 unregistered s c handle v =
     pick (ltb v 4)
-    (effect (isEnded c v) (withService s (placeOf c v) 0 0 0) (unregAck handle))
+    (effect (serviceEndedEvent c v) (withService s (placeOf c v) 0 0 0) (unregAck handle))
     (noting s c DS-UNREG (unregNack handle))
 
 -- "Offer sends REG_REQ with the id and its zero. The handle is the number of the offer's own entry, so none is used twice."
 unfoldable pub offering : List ℕ → ℕ → ℕ → Effect
 offering s c v =
-    effect (isOffered c v) (withService s (placeOf c v) 1 (lastOf s + 1) 0) (regReq (lastOf s + 1) (serviceOf v))
+    effect (offeredEvent c v) (withService s (placeOf c v) 1 (lastOf s + 1) 0) (regReq (lastOf s + 1) (serviceOf v))
 
 -- "Withdraw sends UNREG and makes the service idle at once."
 unfoldable pub withdrawing : List ℕ → ℕ → ℕ → Effect
 withdrawing s c v =
-    effect (isEnded c v) (withService s (placeOf c v) 0 0 0) (unreg (handleAt s (placeOf c v)))
+    effect (serviceEndedEvent c v) (withService s (placeOf c v) 0 0 0) (unreg (handleAt s (placeOf c v)))

@@ -1,6 +1,6 @@
 -- "A state is sound if ..". Beyond 01's sentence a word that means nothing (a stage of 3, a flag of 2, a minor above 65,535, an idle
--- service with a handle or minor, a settled record with another result than OK or NOWORK) makes a state not sound. Words without a
--- meaning in the present state (blocks past the count, a removal's words while none is outstanding, its records past the count, results
+-- service with a handle or minor, an offered one with a minor, a settled record with another result than OK or NOWORK) makes a state not
+-- sound. Words without a meaning in the present state (blocks past the count, a removal's words while none is outstanding, its records past the count, results
 -- from the position on) are free.
 -- Assumes nothing.
 use Prim.Native.Nat.{ℕ, zero, suc, _+_, _*_, _/_}
@@ -15,6 +15,7 @@ use Rattle.model.specs.Layout.{
   stageAt,
   handleAt,
   minorAt,
+  firstBlockWord,
   blocksOf,
   Block,
   blockAt,
@@ -44,13 +45,14 @@ serviceSoundAt s k = serviceSound (stageAt s k) (handleAt s k) (minorAt s k) (re
 unfoldable pub handleApart : List ℕ → ℕ → Bool
 handleApart s k = eqb (handleAt s k) 0 or every k (λ j. not (eqb (handleAt s j) (handleAt s k)))
 
--- the pages of the configured block named at the position, 0 if there is none
+-- the pages of the configured block that a pair names, 0 if there is none
 unfoldable pub roomOf : List ℕ → ℕ → ℕ → ℕ
 roomOf s addr size =
     pick (isNamed s addr size and eqb (blockAt s (namedBlock s addr size) .configured) 1)
     (blockAt s (namedBlock s addr size) .pages)
     0
 
+-- those of the pair at the removal's position
 unfoldable pub removalRoom : List ℕ → Removal → ℕ
 removalRoom s m =
     pick (ltb (m .position) (m .count)) (roomOf s (getD (m .address) (m .position) 0) (getD (m .size) (m .position) 0)) 0
@@ -83,7 +85,7 @@ outstandingSound s =
 -- a state is sound
 unfoldable pub sound : List ℕ → Bool
 sound s =
-    blocksKeep s 53 (blocksOf s)
+    blocksKeep s firstBlockWord (blocksOf s)
     and every 4 (λ c. leb (readyAt s c) 1)
     and every 16 (λ k. serviceSoundAt s k)
     and every 16 (λ k. handleApart s k)

@@ -9,7 +9,7 @@ use Rattle.model.specs.Choice.{pick, _and_, _or_, joined}
 use Rattle.model.specs.declared.Removal.{Removal}
 use Rattle.model.specs.Layout.{Block, blockAt, removalOf, placeOf, withConfigured, withRemoval, withoutRemoval}
 use Rattle.model.specs.Blocks.{namedBlock, isNamed}
-use Rattle.model.specs.Journal.{isCollected, isSettled, isEnd}
+use Rattle.model.specs.Journal.{collectedEvent, settledEvent, removalEndEvent}
 use Rattle.model.specs.Messages.{Effect, effect, registeredAs}
 use Rattle.model.specs.Memory.{
   DR-MEM-OK,
@@ -71,8 +71,8 @@ stillRegistered s m = registeredAs s (m .channel) (m .handle) 0
 unfoldable pub ending : List ℕ → Removal → Effect
 ending s m =
     pick (stillRegistered s m)
-    (effect (isEnd (m .channel) (endCode s m) 1 (m .request)) (withoutRemoval s) (lateReply s m))
-    (effect (isEnd (m .channel) (endCode s m) 0 (m .request)) (withoutRemoval s) [])
+    (effect (removalEndEvent (m .channel) (endCode s m) 1 (m .request)) (withoutRemoval s) (lateReply s m))
+    (effect (removalEndEvent (m .channel) (endCode s m) 0 (m .request)) (withoutRemoval s) [])
 
 -- the record at the position is settled with this result
 unfoldable pub settled : Removal → ℕ → Removal
@@ -111,16 +111,16 @@ pagesMoved s m budget = min budget (blockAt s (blockNow s m) .pages - m .collect
 unfoldable pub collects : List ℕ → Removal → ℕ → Effect
 collects s m n =
     pick (eqb (m .collected + n) (blockAt s (blockNow s m) .pages))
-    (effect (isSettled (m .channel) (m .position) DR-MEM-RES-OK n (blockNow s m))
+    (effect (settledEvent (m .channel) (m .position) DR-MEM-RES-OK n (blockNow s m))
     (withRemoval (withConfigured s (blockNow s m) 0) (settled m DR-MEM-RES-OK))
     [])
-    (effect (isCollected (m .channel) n) (withRemoval s (collecting m n)) [])
+    (effect (collectedEvent (m .channel) n) (withRemoval s (collecting m n)) [])
 
 -- "Else, if its block is unconfigured: settle NOWORK."
 unfoldable pub worksOn : List ℕ → Removal → ℕ → Effect
 worksOn s m budget =
     pick (eqb (blockAt s (blockNow s m) .configured) 0)
-    (effect (isSettled (m .channel) (m .position) DR-MEM-RES-NOWORK 0 (blockNow s m))
+    (effect (settledEvent (m .channel) (m .position) DR-MEM-RES-NOWORK 0 (blockNow s m))
     (withRemoval s (settled m DR-MEM-RES-NOWORK))
     [])
     (collects s m (pagesMoved s m budget))
