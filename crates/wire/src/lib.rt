@@ -6,6 +6,7 @@ ghost use lib.ListN.{length};
 ghost use lib.Seq.{sets};
 ghost use Rattle.wire.specs.BigEndian.{byteAt, numberAt, bytesOf};
 
+// The byte at `at`, as a number.
 fn byte(m: &[u8], at: usize) -> u64
     requires { ⌜ at < length (now m) ⌝ }
     ensures { λ r. ⌜ (r ≡ byteAt (now (m .entry)) at) × (r < 256) ⌝ }
@@ -29,7 +30,7 @@ pub fn get32(m: &[u8], at: usize) -> u64
     byte(m, at) * 16777216 + byte(m, at + 1) * 65536 + byte(m, at + 2) * 256 + byte(m, at + 3)
 }
 
-// The number in the eight bytes from `at` on. A flat sum of eight bytes would not become one load; two halves become two.
+// The number in the eight bytes from `at` on, as two halves, which become one load; a flat sum of eight bytes does not.
 pub fn get64(m: &[u8], at: usize) -> u64
     requires { ⌜ at + 8 ≤ length (now m) ⌝ }
     ensures { λ r. ⌜ r ≡ numberAt (now (m .entry)) at 8 ⌝ }
@@ -59,8 +60,8 @@ pub fn put32(out: &mut [u8], at: usize, v: u32)
     out[at + 3] = (v % 256) as u8;
 }
 
-// Writes the eight bytes of `v` from `at` on, as two halves. The branch keeps the stores of a half together, so that each
-// half becomes one store.
+// Writes the eight bytes of `v` from `at` on, as two halves, and no other byte. The branch keeps the stores of a half
+// together, apart from those of the next field: the low half becomes one store, and so does a high half of 0.
 pub fn put64(out: &mut [u8], at: usize, v: u64)
     requires { ⌜ at + 8 ≤ length (now out) ⌝ }
     ensures { λ _. ⌜ now (out .exit) ≡ sets (now (out .entry)) at (bytesOf 8 v) ⌝ }
