@@ -1,0 +1,33 @@
+-- `wire::get16` meets its contract: the sum is the number's definition, written out.
+-- Assumes nothing.
+use mathlib.Core.Path.{ap}
+use native.Mathlib.Nat.{add-zero}
+use native.Mathlib.Omega.{arith}
+use borrow.Author.Needs.{needs}
+use Rattle.wire.specs.BigEndian.{byteAt, numberAt}
+use Rattle.wire.proofs.get16.Statement.{statement}
+use Rattle.wire.proofs.get16.Tie as tie
+
+byte-requires : tie.Need-byte-requires
+byte-requires c κs = search needs
+
+mul-result : tie.Need-mul-result
+mul-result c = search needs
+
+add-byte : tie.Need-add-byte
+add-byte c = search needs
+
+byte-requires-2 : tie.Need-byte-requires-2
+byte-requires-2 c κs = search needs
+
+add-result : tie.Need-add-result
+add-result c = search needs
+
+returns : tie.Need-returns
+unfolding numberAt
+returns c =
+    let args : _ = c .before .before .before .args in omega (arith, ap (byteAt (args .m .now)) (add-zero (args .at)))
+
+pub get16-spec : {M : Type 1} → statement M
+get16-spec =
+    tie.close (tie.spec byte-requires mul-result add-byte byte-requires-2 add-result returns)
