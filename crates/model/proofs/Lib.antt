@@ -3,4 +3,8 @@ pub mod Words
 pub mod View
 pub mod Rules
 pub mod Sounds
+pub mod Ring
+pub mod Mask
+pub mod Replies
+pub mod Effects
 pub mod Day

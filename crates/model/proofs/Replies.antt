@@ -1,0 +1,113 @@
+-- How long each reply is: none is above 672 bytes.
+-- Assumes nothing.
+use Prim.Native.Nat.{ℕ, zero, suc, _+_, _*_, _≤_, _<_}
+use native.Mathlib.Omega.{arith}
+use mathlib.Core.Path.{_≡_, refl, sym, ap, _∙_}
+use mathlib.Core.Bool.{Bool, true, false}
+use mathlib.Core.List.{List, [], _∷_, _++_}
+use lib.ListN.{length, length-append}
+use lib.Dec.{eqb}
+use Rattle.wire.specs.BigEndian.{bytesOf}
+use Rattle.wire.proofs.Laws.{length-bytes}
+use Rattle.model.specs.Choice.{pick, joined}
+use Rattle.model.specs.declared.Removal.{Removal}
+use Rattle.model.specs.Messages.{
+  Service,
+  services,
+  serviceOf,
+  dsMessage,
+  initAck,
+  initNack,
+  regReq,
+  regNack,
+  unreg,
+  unregAck,
+  unregNack,
+  dsData,
+  nack,
+}
+use Rattle.model.specs.Memory.{memoryReply, resultRecord, queryRecord, permanentRange, statusRecord}
+use Rattle.model.proofs.Choice.{on-pick, joined-length}
+
+message-length : (type : ℕ) (payload : List ℕ) → length (dsMessage type payload) ≡ 8 + length payload
+unfolding dsMessage
+message-length type payload = simp (length-append, length-bytes) (omega arith)
+
+-- the table's rule: no id is above 16 bytes
+id-short : (v : ℕ) → length (serviceOf v .id) ≤ 16
+unfolding services
+id-short zero = omega arith
+id-short (suc zero) = omega arith
+id-short (suc (suc zero)) = omega arith
+id-short (suc (suc (suc zero))) = omega arith
+id-short (suc (suc (suc (suc v)))) = omega arith
+
+pub initAck-short : (minor : ℕ) → length (initAck minor) ≤ 672
+unfolding initAck
+initAck-short minor = simp (message-length, length-bytes) (omega arith)
+
+pub initNack-short : (major : ℕ) → length (initNack major) ≤ 672
+unfolding initNack
+initNack-short major = simp (message-length, length-bytes) (omega arith)
+
+pub regReq-short : (handle v : ℕ) → length (regReq handle (serviceOf v)) ≤ 672
+unfolding regReq
+regReq-short handle v = simp (message-length, length-append, length-bytes) (omega (arith, id-short v))
+
+pub regNack-short : (handle result major : ℕ) → length (regNack handle result major) ≤ 672
+unfolding regNack
+regNack-short handle result major = simp (message-length, length-append, length-bytes) (omega arith)
+
+pub unreg-short : (handle : ℕ) → length (unreg handle) ≤ 672
+unfolding unreg
+unreg-short handle = simp (message-length, length-bytes) (omega arith)
+
+pub unregAck-short : (handle : ℕ) → length (unregAck handle) ≤ 672
+unfolding unregAck
+unregAck-short handle = simp (message-length, length-bytes) (omega arith)
+
+pub unregNack-short : (handle : ℕ) → length (unregNack handle) ≤ 672
+unfolding unregNack
+unregNack-short handle = simp (message-length, length-bytes) (omega arith)
+
+pub nack-short : (handle result : ℕ) → length (nack handle result) ≤ 672
+unfolding nack
+nack-short handle result = simp (message-length, length-append, length-bytes) (omega arith)
+
+pub memory-length : (handle type argument request : ℕ) (records : List ℕ) → length (memoryReply handle type argument request records) ≡ 32 + length records
+unfolding memoryReply dsData
+memory-length handle type argument request records =
+    simp (message-length, length-append, length-bytes) (omega arith)
+
+-- records of 28 bytes, and of 40, at most sixteen
+module _ (handle type request n : ℕ) (few : n ≤ 16) where
+  pub results-short : (f : ℕ → List ℕ) → ((i : ℕ) → length (f i) ≡ 28) → length (memoryReply handle type n request (joined f n)) ≤ 672
+  results-short f h = rw (memory-length, joined-length f 28 n h) (omega arith)
+
+  pub queries-short : (f : ℕ → List ℕ) → ((i : ℕ) → length (f i) ≡ 40) → length (memoryReply handle type n request (joined f n)) ≤ 672
+  queries-short f h = rw (memory-length, joined-length f 40 n h) (omega arith)
+
+pub result-length : (s : List ℕ) (addr size result : ℕ) → length (resultRecord s addr size result) ≡ 28
+unfolding resultRecord
+result-length s addr size result = simp (length-append, length-bytes) (omega arith)
+
+range-length : (bytes first : ℕ) → length (permanentRange bytes first) ≡ 24
+unfolding permanentRange
+range-length bytes first =
+    on-pick (λ (l : List ℕ). length l ≡ 24) (eqb bytes 0) _ _
+    (λ e. simp (length-append, length-bytes) (omega arith))
+    (λ e. simp (length-append, length-bytes) (omega arith))
+
+pub query-length : (s : List ℕ) (addr size : ℕ) → length (queryRecord s addr size) ≡ 40
+unfolding queryRecord
+query-length s addr size = simp (length-append, length-bytes, range-length) (omega arith)
+
+pub status-length : (m : Removal) → length (statusRecord m) ≡ 16
+unfolding statusRecord
+status-length m =
+    on-pick (λ (l : List ℕ). length l ≡ 16) _ _ _
+    (λ e. simp (length-append, length-bytes) (omega arith))
+    (λ e. simp (length-append, length-bytes) (omega arith))
+
+pub short-empty : length {A = ℕ} [] ≤ 672
+short-empty = omega arith
