@@ -7,4 +7,6 @@ pub mod Ring
 pub mod Mask
 pub mod Replies
 pub mod Effects
+pub mod MemoryEffects
+pub mod WorkEffects
 pub mod Day
