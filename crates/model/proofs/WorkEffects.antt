@@ -110,10 +110,31 @@ results-more m r n h old new =
         rw (getD-set-other (m .result) (m .position) i r 0 d)
         (every-at (λ i. at (m .result) i) (m .position) i old (omega arith))
 
-module _ (s : List ℕ) (g : Given s) (o : isSet (outstandingOf s) ≡ true) where
-  m : Removal
-  m = removalOf s
+ok-result : (eqb 0 0 or eqb 0 4) ≡ true
+unfolding _or_
+ok-result = refl
 
+nowork-result : (eqb 4 0 or eqb 4 4) ≡ true
+unfolding _or_
+nowork-result = refl
+
+-- one block fewer is configured
+one-fewer : (s : List ℕ) (k : ℕ) → k < blocksOf s → unconfiguredIn k (viewOf s .blocks) ≡ set (viewOf s .blocks) k (flagged 0 (blockAt s k))
+unfolding viewOf
+one-fewer s k kb =
+    unconfigured-set k (blocksShown s) noBlock
+    ∙ ap (λ (x : Block). set (blocksShown s) k (flagged 0 x)) (shown-at s k kb)
+
+-- fewer pages than the block has
+collected-less : (n room : ℕ) → n < room → collectedSound n room ≡ true
+unfolding collectedSound pick
+collected-less n room h = rw (ne-eqb room 0 (λ q. omega arith), lt-ltb n room h)
+
+less-collected : (n room : ℕ) → collectedSound n room ≡ true → 1 ≤ room → n < room
+unfolding collectedSound pick
+less-collected n room e h = ltb-true n room (rw (ne-eqb room 0 (λ q. omega arith)) at e)
+
+module _ (s : List ℕ) (g : Given s) (o : isSet (outstandingOf s) ≡ true) where
   facts : RemovalFacts s (lastOf s + 1) (removalOf s)
   facts = removes-now s g o .facts
 
@@ -145,6 +166,7 @@ module _ (s : List ℕ) (g : Given s) (o : isSet (outstandingOf s) ≡ true) whe
   collected-good n room l e h =
       let a = loaded-arrays s in
       let f = facts in
+      let same : removalRoom s (collecting (removalOf s) n) ≡ room = e in
       let arrays : Arrays (collecting (removalOf s) n) = record { addresses = a .addresses; sizes = a .sizes; results = a .results } in
       record {
         range = omega (arith, g .number, f .channels);
@@ -159,7 +181,7 @@ module _ (s : List ℕ) (g : Given s) (o : isSet (outstandingOf s) ≡ true) whe
               some = f .some;
               few = f .few;
               within = f .within;
-              room = ?room;
+              room = rw same (collected-less (removalOf s .collected + n) room h);
               results = f .results;
             });
       }
@@ -176,5 +198,108 @@ module _ (s : List ℕ) (g : Given s) (o : isSet (outstandingOf s) ≡ true) whe
         base = base-removal s (lastOf s + 1) (settled (removalOf s) 4) (base-now s g);
         removal =
             removes-made s (lastOf s + 1) (settled (removalOf s) 4) (g .size) (g .facts .base .few) (settled-arrays 4)
-            (settled-facts s 4 h (unfold _or_ in refl));
+            (settled-facts s 4 h nowork-result);
       }
+
+  -- 15, OK: the block's flag falls as well
+  taken-good : (k n : ℕ) → removalOf s .position < removalOf s .count → n < 65536 → k < blocksOf s → blockAt s k .permanent ≡ 0 → Good s (effect (settledEvent (removalOf s .channel) (removalOf s .position) 0 n k) (withRemoval (withConfigured s k 0) (settled (removalOf s) 0)) [])
+  unfolding fieldsOf read pick steppedRemoval seeBlocks seeRemoval settled
+  taken-good k n h l kb z =
+      let f = facts in
+      let w = shape s g in
+      let k16 : k < 16 = omega (arith, w .few) in
+      let a = configured-moves s w k 0 k16 in
+      let w′ = shape-moves a w in
+      record {
+        range = omega (arith, g .number, f .channels, f .few);
+        moves =
+            turns _ (then a (removal-moves (withConfigured s k 0) w′ (settled (removalOf s) 0) (settled-arrays 0)))
+            (rw (removing-now s g o, one-fewer s k kb));
+        fits = short-empty;
+        base =
+            base-removal (withConfigured s k 0) (lastOf s + 1) (settled (removalOf s) 0)
+            (base-configured s k 0 (g .size) (w .few) kb (lastOf s + 1) (omega arith) (λ q. absurd (q z)) (base-now s g));
+        removal =
+            removes-made (withConfigured s k 0) (lastOf s + 1) (settled (removalOf s) 0) (w′ .size) (w′ .few) (settled-arrays 0)
+            (settled-facts (withConfigured s k 0) 0 h ok-result);
+      }
+
+  -- 16
+  code-small : endCode s (removalOf s) < 8
+  unfolding endCode
+  code-small =
+      on-pick (λ (n : ℕ). n < 8) _ _ _ (λ e. omega arith)
+      (λ e. on-pick (λ (n : ℕ). n < 8) _ _ _ (λ e₁. omega arith)
+      (λ e₁. on-pick (λ (n : ℕ). n < 8) _ _ _ (λ e₂. omega arith) (λ e₂. omega arith)))
+
+  end-good : (replied : ℕ) (reply : List ℕ) → replied ≤ 1 → length reply ≤ 672 → Good s (effect (removalEndEvent (removalOf s .channel) (endCode s (removalOf s)) replied (removalOf s .request)) (withoutRemoval s) reply)
+  unfolding fieldsOf read pick
+  end-good replied reply r f =
+      let m = facts in
+      record {
+        range = omega (arith, g .number, m .channels, code-small);
+        moves = without-moves s (shape s g);
+        fits = f;
+        base = base-without s (lastOf s + 1) (base-now s g);
+        removal = removes-none (withoutRemoval s) (lastOf s + 1) (without-outstanding s (g .size));
+      }
+
+  ending-good : Good s (ending s (removalOf s))
+  unfolding ending
+  ending-good =
+      on-pick (Good s) _ _ _ (λ e. end-good 1 _ (omega arith) late-short) (λ e. end-good 0 [] (omega arith) short-empty)
+    where
+      late-short : length (lateReply s (removalOf s)) ≤ 672
+      late-short =
+          unfold lateReply in results-short (removalOf s .handle) _ (removalOf s .request) (removalOf s .count) (facts .few) _
+          (λ i. result-length s (getD (removalOf s .address) i 0) (getD (removalOf s .size) i 0) _)
+
+  -- the record at the position names a configured block: its pages are the room
+  room-now : removalOf s .position < removalOf s .count → isKnown s (removalOf s) ≡ true → blockAt s (blockNow s (removalOf s)) .configured ≡ 1 → removalRoom s (removalOf s) ≡ blockAt s (blockNow s (removalOf s)) .pages
+  unfolding removalRoom roomOf pick _and_
+  room-now h k e = rw (lt-ltb _ _ h, k, eq-eqb _ 1 e)
+
+  collects-good : (budget : ℕ) → budget < 65536 → removalOf s .position < removalOf s .count → isKnown s (removalOf s) ≡ true → blockAt s (blockNow s (removalOf s)) .permanent ≡ 0 → blockAt s (blockNow s (removalOf s)) .configured ≡ 1 → Good s (collects s (removalOf s) (pagesMoved s (removalOf s) budget))
+  unfolding collects pagesMoved
+  collects-good budget l h k z e =
+      let less = named-less s (addrNow (removalOf s)) (sizeNow (removalOf s)) k in
+      let b = block-rules _ _ (g .facts .base .blocks (blockNow s (removalOf s)) less) .0 in
+      let room = room-now h k e in
+      let old = less-collected _ _ (facts .room) (omega (arith, room, b .some)) in
+      on-pick (Good s) _ _ _
+      (λ q. taken-good (blockNow s (removalOf s)) _ h (omega arith) less z)
+      (λ q.
+      let d = eqb-false _ _ q in
+      collected-good _ (blockAt s (blockNow s (removalOf s)) .pages) (omega arith) room
+      (below (removalOf s .collected) budget (blockAt s (blockNow s (removalOf s)) .pages) (omega (arith, room, old)) d))
+    where
+      below : (c n p : ℕ) → c < p → (c + min n (p - c) ≡ p → ⊥) → c + min n (p - c) < p
+      below c n p h d = omega arith
+
+  flag-one : (c : ℕ) → c ≤ 1 → (c ≡ 0 → ⊥) → c ≡ 1
+  flag-one zero h n = absurd (n refl)
+  flag-one (suc zero) h n = refl
+  flag-one (suc (suc c)) h n = absurd (omega arith)
+
+  works-good : (budget : ℕ) → budget < 65536 → removalOf s .position < removalOf s .count → isKnown s (removalOf s) ≡ true → blockAt s (blockNow s (removalOf s)) .permanent ≡ 0 → Good s (worksOn s (removalOf s) budget)
+  unfolding worksOn
+  works-good budget l h k z =
+      let less = named-less s (addrNow (removalOf s)) (sizeNow (removalOf s)) k in
+      let b = block-rules _ _ (g .facts .base .blocks (blockNow s (removalOf s)) less) .0 in
+      on-pick (Good s) _ _ _
+      (λ q. nowork-good (blockNow s (removalOf s)) h)
+      (λ q. collects-good budget l h k z (flag-one _ (b .flag) (eqb-false _ 0 q)))
+
+  step-good : (budget : ℕ) → budget < 65536 → Good s (stepOf s (removalOf s) budget)
+  unfolding stepOf ends
+  step-good budget l =
+      on-pick (Good s) _ _ _ (λ e. ending-good)
+      (λ e.
+      let e1 = or-false _ _ e in
+      let e2 = or-false _ _ (e1 .1) in
+      let e3 = or-false _ _ (e2 .1) in
+      works-good budget l (leb-false _ _ (e2 .0)) (not-false _ (e3 .0)) (eqb-true _ 0 (not-false _ (e3 .1))))
+
+pub working-good : (s : List ℕ) (g : Given s) (budget : ℕ) → isSet (outstandingOf s) ≡ true → budget < 65536 → Good s (working s budget)
+unfolding working
+working-good s g budget o l = step-good s g o budget l

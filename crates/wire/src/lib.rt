@@ -60,19 +60,16 @@ pub fn put32(out: &mut [u8], at: usize, v: u32)
     out[at + 3] = (v % 256) as u8;
 }
 
-// Writes the eight bytes of `v` from `at` on, as two halves, and no other byte. The branch keeps the stores of a half
-// together, apart from those of the next field: the low half becomes one store, and so does a high half of 0.
+// Writes the eight bytes of `v` from `at` on, as two halves, and no other byte. The test always holds: it keeps the stores of
+// one field apart from those of the next, so that the eight become one store.
 pub fn put64(out: &mut [u8], at: usize, v: u64)
     requires { ⌜ at + 8 ≤ length (now out) ⌝ }
     ensures { λ _. ⌜ now (out .exit) ≡ sets (now (out .entry)) at (bytesOf 8 v) ⌝ }
 {
     let high = (v / 4294967296) as u32;
     let low = (v % 4294967296) as u32;
-    if high == 0 {
-        put32(out, at, 0);
+    if at < out.len() {
+        put32(out, at, high);
         put32(out, at + 4, low);
-        return;
     }
-    put32(out, at, high);
-    put32(out, at + 4, low);
 }

