@@ -129,3 +129,27 @@ pub joined-length : (f : ℕ → List ℕ) (k n : ℕ) → ((i : ℕ) → length
 unfolding joined
 joined-length f k zero h = sym (zero-mul k)
 joined-length f k (suc n) h = length-append (joined f n) (f n) ∙ rw (joined-length f k n h, h n) (sym (suc-mul n k))
+
+-- The first of four that passes.
+pub first-passes : (f : ℕ → Bool) → firstOf f < 4 → f (firstOf f) ≡ true
+unfolding firstOf
+first-passes f =
+    on-pick P (f 0) 0 _ (λ e l. e)
+    (λ _. on-pick P (f 1) 1 _ (λ e l. e)
+    (λ _. on-pick P (f 2) 2 _ (λ e l. e)
+    (λ _. on-pick P (f 3) 3 4 (λ e l. e) (λ _ l. absurd (omega arith)))))
+  where
+    P : ℕ → Type 0
+    P n = n < 4 → f n ≡ true
+
+-- none passes where there is no first
+pub first-none : (f : ℕ → Bool) → ltb (firstOf f) 4 ≡ (f 0 or f 1 or f 2 or f 3)
+unfolding firstOf
+first-none f = any (f 0) (f 1) (f 2) (f 3)
+  where
+    any : (a b c d : Bool) → ltb (pick a 0 (pick b 1 (pick c 2 (pick d 3 4)))) 4 ≡ (a or b or c or d)
+    any true b c d = unfold pick _or_ in refl
+    any false true c d = unfold pick _or_ in refl
+    any false false true d = unfold pick _or_ in refl
+    any false false false true = unfold pick _or_ in refl
+    any false false false false = unfold pick _or_ in refl

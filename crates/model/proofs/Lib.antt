@@ -9,4 +9,8 @@ pub mod Replies
 pub mod Effects
 pub mod MemoryEffects
 pub mod WorkEffects
+pub mod ReceiveEffects
+pub mod Calls
+pub mod Lists
+pub mod Setup
 pub mod Day
