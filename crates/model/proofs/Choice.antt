@@ -153,3 +153,17 @@ first-none f = any (f 0) (f 1) (f 2) (f 3)
     any false false true d = unfold pick _or_ in refl
     any false false false true = unfold pick _or_ in refl
     any false false false false = unfold pick _or_ in refl
+
+pub first-fails : (f : ℕ → Bool) → ltb (firstOf f) 4 ≡ false → (v : ℕ) → v < 4 → f v ≡ false
+first-fails f e v l =
+    let a = or-false (f 0) (f 1 or f 2 or f 3) (sym (first-none f) ∙ e) in
+    let b = or-false (f 1) (f 2 or f 3) (a .1) in
+    let c = or-false (f 2) (f 3) (b .1) in
+    go v l (a .0) (b .0) (c .0) (c .1)
+  where
+    go : (v : ℕ) → v < 4 → f 0 ≡ false → f 1 ≡ false → f 2 ≡ false → f 3 ≡ false → f v ≡ false
+    go zero l p q r s = p
+    go (suc zero) l p q r s = q
+    go (suc (suc zero)) l p q r s = r
+    go (suc (suc (suc zero))) l p q r s = s
+    go (suc (suc (suc (suc v)))) l p q r s = absurd (omega arith)

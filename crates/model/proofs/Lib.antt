@@ -13,4 +13,6 @@ pub mod ReceiveEffects
 pub mod Calls
 pub mod Lists
 pub mod Setup
+pub mod Delivers
+pub mod Demand3
 pub mod Day
