@@ -15,4 +15,5 @@ pub mod Lists
 pub mod Setup
 pub mod Delivers
 pub mod Demand3
+pub mod Kept
 pub mod Day
