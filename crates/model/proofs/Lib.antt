@@ -16,4 +16,5 @@ pub mod Setup
 pub mod Delivers
 pub mod Demand3
 pub mod Kept
+pub mod Linked
 pub mod Day

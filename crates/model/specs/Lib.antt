@@ -11,4 +11,5 @@ pub mod Calls
 pub mod Reading
 pub mod Demand3
 pub mod Kept
+pub mod Step
 pub mod Day

@@ -206,12 +206,15 @@ pub record Effect : Type 0 where
 abbrev pub effect : Event → List ℕ → List ℕ → Effect
 effect e s reply = record { event = e; state = s; reply = reply }
 
--- "Handles below are those of this channel": service v of channel c is offered, registered, or live under the handle h
+-- "Handles below are those of this channel": service v of channel c is at a stage (1 offered, 2 registered), or live, under the handle h
+abbrev pub stagedAs : List ℕ → ℕ → ℕ → ℕ → ℕ → Bool
+stagedAs s c h stage v = eqb (stageAt s (placeOf c v)) stage and eqb (handleAt s (placeOf c v)) h
+
 abbrev pub offeredAs : List ℕ → ℕ → ℕ → ℕ → Bool
-offeredAs s c h v = eqb (stageAt s (placeOf c v)) 1 and eqb (handleAt s (placeOf c v)) h
+offeredAs s c h v = stagedAs s c h 1 v
 
 abbrev pub registeredAs : List ℕ → ℕ → ℕ → ℕ → Bool
-registeredAs s c h v = eqb (stageAt s (placeOf c v)) 2 and eqb (handleAt s (placeOf c v)) h
+registeredAs s c h v = stagedAs s c h 2 v
 
 abbrev pub liveAs : List ℕ → ℕ → ℕ → ℕ → Bool
 liveAs s c h v = not (eqb (stageAt s (placeOf c v)) 0) and eqb (handleAt s (placeOf c v)) h
