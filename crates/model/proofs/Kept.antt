@@ -38,9 +38,9 @@ use Rattle.model.specs.Calls.{
 }
 use Rattle.model.specs.Reading.{setupView}
 use Rattle.model.specs.Demand3.{Run, after, next, runs, start}
-use Rattle.model.specs.Kept.{SoundnessKept, bufferOf, RefusalKept, EntryAdded, DrainKept, IsNoDrain, CallsKept}
+use Rattle.model.specs.Kept.{SoundnessKept, bufferOf, RefusalKept, EntryAdded, DrainKept, IsNoDrain, CallsKept, RemovalKept}
 use Rattle.model.proofs.Choice.{clash, on-pick}
-use Rattle.model.proofs.Words.{counts-length, last-counts, held-counts}
+use Rattle.model.proofs.Words.{counts-length, last-counts, held-counts, removal-back, removal-again}
 use Rattle.model.proofs.View.{shape-moves}
 use Rattle.model.proofs.Rules.{Sound, sound-facts}
 use Rattle.model.proofs.Sounds.{sound-counted}
@@ -226,3 +226,10 @@ list-sound l j calls = let s = setup-kept l in runs-sound calls (start l j) (s .
 
 pub soundness-kept : SoundnessKept
 soundness-kept = record { bySetup = setup-kept; byCall = call-sound; byList = list-sound }
+
+pub removal-kept : RemovalKept
+removal-kept = record {
+  loadAfterStore =
+      λ s m size a. removal-back s m size (record { addresses = a .0; sizes = a .1; results = a .2 });
+  storeAfterLoad = removal-again;
+}

@@ -17,4 +17,5 @@ pub mod Delivers
 pub mod Demand3
 pub mod Kept
 pub mod Linked
+pub mod LateReply
 pub mod Day

@@ -3,7 +3,7 @@
 use mathlib.Core.Path.{_≡_, refl, sym, ap, _∙_, subst}
 use mathlib.Core.Bool.{Bool, true, false}
 use mathlib.Core.List.{List, [], _∷_, _++_}
-use Prim.Native.Nat.{ℕ, zero, suc, _+_, _*_, _/_, _%_, _<_, _≤_}
+use Prim.Native.Nat.{ℕ, zero, suc, _+_, _-_, _*_, _/_, _%_, _<_, _≤_}
 use native.Mathlib.Omega.{arith}
 use lib.ListN.{length, getD, set, replicate, length-set, length-replicate, getD-replicate}
 use lib.Seq.{sets, ext-getD, getD-set-same, getD-set-other, length-sets}
@@ -208,6 +208,62 @@ loaded-arrays s = record {
   sizes = tabulate-length (λ (i : ℕ). getD s (159 + i) 0) 16;
   results = tabulate-length (λ (i : ℕ). getD s (175 + i) 0) 16;
 }
+
+-- storing what was loaded changes nothing
+module _ (s : List ℕ) (n : length s ≡ 191) (one : outstandingOf s ≡ 1) (flag : cancelledOf s ≤ 1) where
+  word-flag : (x : ℕ) → x ≤ 1 → wordOf (isSet x) ≡ x
+  word-flag zero h = refl
+  word-flag (suc zero) h = refl
+  word-flag (suc (suc x)) h = absurd (omega arith)
+
+  head-same : (i : ℕ) → i < 8 → getD (removalHead (removalOf s)) i 0 ≡ getD s (135 + i) 0
+  unfolding removalOf
+  head-same zero h = sym one
+  head-same (suc zero) h = word-flag (getD s 136 0) flag
+  head-same (suc (suc zero)) h = refl
+  head-same (suc (suc (suc zero))) h = refl
+  head-same (suc (suc (suc (suc zero)))) h = refl
+  head-same (suc (suc (suc (suc (suc zero))))) h = refl
+  head-same (suc (suc (suc (suc (suc (suc zero)))))) h = refl
+  head-same (suc (suc (suc (suc (suc (suc (suc zero))))))) h = refl
+  head-same (suc (suc (suc (suc (suc (suc (suc (suc i)))))))) h = absurd (omega arith)
+
+  -- word i of sixteen from at on
+  sixteen-same : (at i : ℕ) → i < 16 → getD (tabulate (λ (i : ℕ). getD s (at + i) 0) 16) i 0 ≡ getD s (at + i) 0
+  sixteen-same at i h = tabulate-at (λ (i : ℕ). getD s (at + i) 0) 16 i 0 h
+
+  pub removal-again : withRemoval s (removalOf s) ≡ s
+  removal-again =
+      ext-getD 0 (withRemoval s (removalOf s)) s (removal-length s (removalOf s))
+      (λ j h. go j (omega (arith, removal-length s (removalOf s))) (ltb j 135) refl (ltb j 143) refl (ltb j 159) refl (ltb j 175) refl)
+    where
+      a : Arrays (removalOf s)
+      a = loaded-arrays s
+
+      at : (k i j : ℕ) → k + i ≡ j → getD (withRemoval s (removalOf s)) (k + i) 0 ≡ getD s (k + i) 0 → getD (withRemoval s (removalOf s)) j 0 ≡ getD s j 0
+      at k i j e p = rw e at p
+
+      go : (j : ℕ) → j < 191 → (p : Bool) → ltb j 135 ≡ p → (q : Bool) → ltb j 143 ≡ q → (r : Bool) → ltb j 159 ≡ r → (t : Bool) → ltb j 175 ≡ t → getD (withRemoval s (removalOf s)) j 0 ≡ getD s j 0
+      go j h true p q q′ r r′ t t′ = removal-frame s (removalOf s) j (ltb-true j 135 p)
+      go j h false p true q′ r r′ t t′ =
+          let lo = ltb-false j 135 p in
+          let hi = ltb-true j 143 q′ in
+          at 135 (j - 135) j (omega arith)
+          (head-back s (removalOf s) n a (j - 135) (omega arith) ∙ head-same (j - 135) (omega arith))
+      go j h false p false q′ true r′ t t′ =
+          let lo = ltb-false j 143 q′ in
+          let hi = ltb-true j 159 r′ in
+          at 143 (j - 143) j (omega arith)
+          (address-back s (removalOf s) n a (j - 143) (omega arith) ∙ unfold removalOf in (sixteen-same 143 (j - 143) (omega arith)))
+      go j h false p false q′ false r′ true t′ =
+          let lo = ltb-false j 159 r′ in
+          let hi = ltb-true j 175 t′ in
+          at 159 (j - 159) j (omega arith)
+          (size-back s (removalOf s) n a (j - 159) (omega arith) ∙ unfold removalOf in (sixteen-same 159 (j - 159) (omega arith)))
+      go j h false p false q′ false r′ false t′ =
+          let lo = ltb-false j 175 t′ in
+          at 175 (j - 175) j (omega arith)
+          (result-back s (removalOf s) n a (j - 175) (omega arith) ∙ unfold removalOf in (sixteen-same 175 (j - 175) (omega arith)))
 
 -- equal words are the same removal
 pub removal-same : (s t : List ℕ) → Agree s t 135 191 → removalOf t ≡ removalOf s

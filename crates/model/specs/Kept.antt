@@ -5,12 +5,24 @@ use mathlib.Core.Path.{_≡_}
 use mathlib.Core.Bool.{Bool, true, false}
 use mathlib.Core.List.{List, [], _∷_, _++_}
 use lib.ListN.{length, getD, drop, take}
+use Rattle.wire.specs.BigEndian.{numberAt}
 use Rattle.entry.specs.declared.Fields.{Fields}
 use Rattle.entry.specs.Word.{unpacked}
-use Rattle.model.specs.Layout.{stateWords, lastOf, heldOf, withCounts}
+use Rattle.model.specs.declared.Removal.{Removal}
+use Rattle.model.specs.Layout.{
+  stateWords,
+  lastOf,
+  heldOf,
+  outstandingOf,
+  cancelledOf,
+  removalOf,
+  withCounts,
+  withRemoval,
+}
 use Rattle.model.specs.Blocks.{acceptedList}
 use Rattle.model.specs.State.{sound}
 use Rattle.model.specs.Journal.{slotOf, entriesAt, wordsOf, entryAt}
+use Rattle.model.specs.Messages.{registeredAs}
 use Rattle.model.specs.Calls.{Call, receive, offer, withdraw, close, work, drain, Outcome, outcome, started}
 use Rattle.model.specs.Demand3.{Run, runs, start}
 
@@ -90,3 +102,28 @@ pub record CallsKept : Type 0 where
       length s ≡ stateWords →
       outcome s j (drain run) .refusal ≡ 0 →
       DrainKept s j run (outcome s j (drain run))
+
+-- The late reply: what a work step writes is under the removal's own handle, and that handle is registered for service 0 on the removal's
+-- channel as the step begins. Where it is not, nothing is written.
+pub record LateReplyKept : Type 0 where
+  pub underOwnHandle :
+      (s j : List ℕ) (budget : ℕ) (out : List ℕ) →
+      length s ≡ stateWords →
+      outcome s j (work budget out) .refusal ≡ 0 →
+      0 < outcome s j (work budget out) .count →
+      (numberAt (outcome s j (work budget out) .buffer) 8 8 ≡ removalOf s .handle)
+      × (registeredAs s (removalOf s .channel) (removalOf s .handle) 0 ≡ true)
+
+-- the removal as a record of numbers and arrays of 16: what is stored is loaded, and what is loaded is stored
+pub record RemovalKept : Type 0 where
+  pub loadAfterStore :
+      (s : List ℕ) (m : Removal) →
+      length s ≡ stateWords →
+      (length (m .address) ≡ 16) × (length (m .size) ≡ 16) × (length (m .result) ≡ 16) →
+      removalOf (withRemoval s m) ≡ m
+  pub storeAfterLoad :
+      (s : List ℕ) →
+      length s ≡ stateWords →
+      outstandingOf s ≡ 1 →
+      cancelledOf s ≤ 1 →
+      withRemoval s (removalOf s) ≡ s
