@@ -251,7 +251,7 @@ module _ (s : List ℕ) (g : Given s) (o : isSet (outstandingOf s) ≡ true) whe
     where
       late-short : length (lateReply s (removalOf s)) ≤ 672
       late-short =
-          unfold lateReply in results-short (removalOf s .handle) _ (removalOf s .request) (removalOf s .count) (facts .few) _
+          unfold lateReply in results-short _ _ _ (removalOf s .count) (facts .few) _
           (λ i. result-length s (getD (removalOf s .address) i 0) (getD (removalOf s .size) i 0) _)
 
   -- the record at the position names a configured block: its pages are the room
