@@ -1,35 +1,20 @@
 -- What holds of a call that is accepted.
 -- Assumes nothing.
-use Prim.Native.Nat.{ℕ, zero, suc, _+_, _-_, _*_, _≤_, _<_}
+use Prim.Native.Nat.{ℕ, _≤_, _<_}
 use native.Mathlib.Omega.{arith}
 use mathlib.Core.Path.{_≡_, refl, sym, ap, _∙_}
 use mathlib.Core.Bool.{Bool, true, false, false≢true}
-use mathlib.Core.List.{List, []}
+use mathlib.Core.List.{List}
 use lib.ListN.{length}
-use lib.Dec.{leb, ltb, eqb}
+use lib.Dec.{eqb}
 use borrow.Author.Tests.{ltb-true, leb-true, eqb-true}
-use Rattle.model.specs.Choice.{pick, _and_}
+use Rattle.model.specs.Choice.{pick}
 use Rattle.model.specs.Layout.{lastOf, heldOf, outstandingOf, isSet}
 use Rattle.model.specs.State.{sound}
 use Rattle.model.specs.Refusals.{refusalOf, drainRefusal}
 use Rattle.model.specs.Messages.{Effect, closing, offering, withdrawing}
 use Rattle.model.specs.Work.{working}
-use Rattle.model.specs.Calls.{
-  Call,
-  receive,
-  offer,
-  withdraw,
-  close,
-  work,
-  drain,
-  Outcome,
-  outcome,
-  decided,
-  receiving,
-  canOffer,
-  canWithdraw,
-  canWork,
-}
+use Rattle.model.specs.Calls.{Call, receive, offer, withdraw, close, work, drain, Outcome, outcome, decided, receiving, canOffer, canWork}
 use Rattle.model.specs.Kept.{bufferOf, IsNoDrain}
 use Rattle.model.proofs.Choice.{both}
 use Rattle.model.proofs.Rules.{sound-facts}

@@ -1,9 +1,9 @@
 -- C1 to C10, computed from setup's own result.
 -- Assumes nothing.
-use mathlib.Core.Path.{_≡_, refl}
+use mathlib.Core.Path.{refl}
 use Rattle.model.specs.Blocks.{blockKeeps, endBefore, blocksKeep, acceptedList, setupState, names, namedBelow, isNamed}
 use Rattle.model.specs.Calls.{refused, pagesIn, accepted, decided, dataFor, heard, hears, receiving, canOffer, canWithdraw, canWork, drained, draining, outcome, started}
-use Rattle.model.specs.Choice.{pick, _and_, _or_, every, firstOf, tabulate, joined}
+use Rattle.model.specs.Choice.{pick, every, firstOf, tabulate, joined, _and_, _or_}
 use Rattle.model.specs.Day.{Day, outcomes, replies}
 use Rattle.model.specs.Demand3.{drainedBy, numberedBy, after, next, runs, start}
 use Rattle.model.specs.Journal.{fieldsOf, entryOf, stored, entryAt, entriesAt, wordsOf, entriesIn}

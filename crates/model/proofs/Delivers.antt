@@ -1,81 +1,34 @@
 -- Data reaches a service exactly when the view shows its handle registered on the channel, and reaches that service.
 -- Assumes nothing.
-use Prim.Native.Nat.{ℕ, zero, suc, _+_, _-_, _*_, _/_, _≤_, _<_}
+use Prim.Native.Nat.{ℕ, zero, suc, _+_, _/_, _≤_, _<_}
 use native.Mathlib.Omega.{arith}
 use mathlib.Core.Path.{_≡_, refl, sym, ap, _∙_}
 use mathlib.Core.Bool.{Bool, true, false, not}
-use mathlib.Core.List.{List, [], _∷_, _++_}
-use lib.ListN.{length, getD, drop, take}
+use mathlib.Core.List.{List, []}
+use lib.ListN.{length, drop}
 use lib.Seq.{take-append-seam}
 use lib.Dec.{leb, ltb, eqb, eqb·suc-zero, eqb·zero-suc}
 use borrow.Author.Tests.{eq-eqb, ne-eqb, le-leb, lt-ltb, ltb-true, ltb-false, eqb-true, eqb-false, leb-true}
 use Rattle.wire.specs.BigEndian.{bytesOf, written}
-use Rattle.entry.specs.declared.Fields.{Fields}
-use Rattle.entry.specs.Word.{unpacked}
-use Rattle.model.specs.Choice.{pick, _and_, _or_, firstOf, tabulate}
-use Rattle.model.specs.declared.Message.{Message}
+use Rattle.model.specs.Choice.{pick, _and_, _or_, firstOf}
 use Rattle.model.specs.declared.Message.the-variants.{Data}
 use Rattle.model.specs.declared.Request.{Request}
 use Rattle.model.specs.declared.Request.the-variants.{Configure, Unconfigure, Query, Status, Cancel, Malformed}
-use Rattle.model.specs.Layout.{readyAt, placeOf, stageAt, handleAt, minorAt, lastOf, heldOf, withCounts}
+use Rattle.model.specs.Layout.{readyAt, placeOf, stageAt, handleAt, minorAt, lastOf, heldOf}
 use Rattle.model.specs.State.{serviceSound}
-use Rattle.model.specs.Journal.{Event, Entry, deliveredEvent, dataRefusedEvent, fieldsOf, entryOf, entryAt, stored}
-use Rattle.model.specs.Messages.{
-  DS-INV-HDL,
-  Effect,
-  effect,
-  typeOf,
-  payloadLength,
-  dsMessage,
-  dsData,
-  nack,
-  wholeMessage,
-  payloadFits,
-  wellFormed,
-  decodedByType,
-  decoded,
-  registeredAs,
-  closing,
-}
-use Rattle.model.specs.Memory.{
-  memoryReply,
-  answering,
-  answeringError,
-  blocked,
-  Progress,
-  configuredBy,
-  configureReply,
-  answeringConfigure,
-  beginning,
-  querying,
-  reporting,
-  cancelling,
-  requested,
-  requestOf,
-  requestNumber,
-  answeredMemory,
-}
+use Rattle.model.specs.Journal.{deliveredEvent, dataRefusedEvent, fieldsOf, entryOf}
+use Rattle.model.specs.Messages.{DS-INV-HDL, Effect, effect, payloadLength, dsMessage, dsData, nack, wholeMessage, payloadFits, wellFormed, decodedByType, decoded, registeredAs, closing}
+use Rattle.model.specs.Memory.{memoryReply, answering, answeringError, blocked, Progress, configuredBy, configureReply, answeringConfigure, beginning, querying, reporting, cancelling, requested, requestOf, requestNumber, answeredMemory}
 use Rattle.model.specs.Refusals.{refusalOf}
-use Rattle.model.specs.Calls.{Call, receive, Outcome, outcome, decided, refused, accepted, dataFor, heard, hears, receiving}
-use Rattle.model.specs.Reading.{View, Stage, idle, offered, registered, stageOf, servicesOf, viewOf}
-use Rattle.model.specs.Demand3.{
-  sameBytes,
-  replyOf,
-  noted,
-  reached,
-  reachedService,
-  showsHandle,
-  showsService,
-  showsRegistered,
-  WellFormedData,
-  Delivers,
-}
+use Rattle.model.specs.Calls.{receive, outcome, decided, refused, accepted, dataFor, heard, hears, receiving}
+use Rattle.model.specs.Reading.{idle, stageOf, servicesOf, viewOf}
+use Rattle.model.specs.Demand3.{sameBytes, replyOf, noted, reached, reachedService, showsHandle, showsService, showsRegistered, WellFormedData, Delivers}
 use Rattle.model.proofs.Choice.{clash, on-pick, both, and-false, and-false-right, first-passes, first-none, first-fails, tabulate-at}
 use Rattle.model.proofs.Words.{last-counts}
 use Rattle.model.proofs.Rules.{Sound, Live, live-rules, sound-facts}
 use Rattle.model.proofs.Ring.{fields-back, stored-same}
 use Rattle.model.proofs.View.{shape-moves}
-use Rattle.model.proofs.Effects.{Given, Good, shape}
+use Rattle.model.proofs.Effects.{Given, shape}
 use Rattle.model.proofs.ReceiveEffects.{receiving-good}
 use Rattle.model.proofs.Calls.{Taken, passed}
 

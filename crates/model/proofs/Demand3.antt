@@ -1,21 +1,19 @@
 -- Demand 3 holds: any accepted block list, any first journal, any list of calls.
 -- Assumes nothing.
-use Prim.Native.Nat.{ℕ, _+_, _≤_}
+use Prim.Native.Nat.{ℕ}
 use native.Mathlib.Omega.{arith}
-use mathlib.Core.Path.{_≡_, refl, sym, ap, _∙_}
-use mathlib.Core.Bool.{Bool, true}
-use mathlib.Core.List.{List, [], _∷_, _++_}
-use lib.ListN.{length}
+use mathlib.Core.Path.{_≡_, refl, sym}
+use mathlib.Core.Bool.{true}
+use mathlib.Core.List.{List}
 use Rattle.model.specs.Choice.{pick}
-use Rattle.model.specs.Layout.{lastOf, heldOf}
 use Rattle.model.specs.Blocks.{acceptedList, setupState}
 use Rattle.model.specs.Journal.{entriesAt}
-use Rattle.model.specs.Calls.{Call, started}
-use Rattle.model.specs.Reading.{reading, setupView, viewOf}
-use Rattle.model.specs.Demand3.{Run, start, entries, runs, Demand3, Demand3Holds}
+use Rattle.model.specs.Calls.{started}
+use Rattle.model.specs.Reading.{reading, setupView}
+use Rattle.model.specs.Demand3.{start, entries, runs, Demand3Holds}
 use Rattle.model.proofs.Rules.{sound-facts}
-use Rattle.model.proofs.Setup.{Starts, starts}
-use Rattle.model.proofs.Lists.{Listed, Kept, kept-runs}
+use Rattle.model.proofs.Setup.{starts}
+use Rattle.model.proofs.Lists.{Kept, kept-runs}
 use Rattle.model.proofs.Delivers.{delivers}
 
 -- setup's state is that of its list

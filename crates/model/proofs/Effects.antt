@@ -1,88 +1,27 @@
 -- What is shown of every effect: its entry's fields fit, reading the entry does to what is shown what the call did to the words, the reply
 -- fits the output, and the state stays sound.
 -- Assumes nothing.
-use Prim.Native.Nat.{ℕ, zero, suc, _+_, _-_, _*_, _/_, _%_, _≤_, _<_, min}
+use Prim.Native.Nat.{ℕ, _+_, _/_, _≤_, _<_}
 use native.Mathlib.Omega.{arith}
-use mathlib.Core.Path.{_≡_, refl, sym, ap, _∙_, subst}
-use mathlib.Core.Bool.{Bool, true, false, not}
-use mathlib.Core.List.{List, [], _∷_, _++_}
-use lib.ListN.{length, getD, set}
-use lib.Dec.{leb, ltb, eqb}
-use borrow.Author.Tests.{ltb-true, ltb-false, leb-true, eqb-true, eqb-false, eq-eqb, ne-eqb, le-leb, not-true}
-use Rattle.wire.specs.BigEndian.{numberAt}
+use mathlib.Core.Path.{_≡_, refl, sym, _∙_}
+use mathlib.Core.Bool.{Bool, true, false}
+use mathlib.Core.List.{List, []}
+use lib.ListN.{length}
+use lib.Dec.{ltb}
+use borrow.Author.Tests.{ltb-true, ltb-false, eqb-true, le-leb}
 use Rattle.entry.specs.Word.{InRange}
-use Rattle.model.specs.Choice.{pick, _and_, firstOf}
-use Rattle.model.specs.Layout.{
-  readyAt,
-  placeOf,
-  stageAt,
-  handleAt,
-  minorAt,
-  blocksOf,
-  lastOf,
-  heldOf,
-  withChannel,
-  withService,
-}
+use Rattle.model.specs.Choice.{pick}
+use Rattle.model.specs.Layout.{readyAt, placeOf, stageAt, handleAt, lastOf, withChannel, withService}
 use Rattle.model.specs.State.{serviceSound}
-use Rattle.model.specs.Journal.{
-  Event,
-  fieldsOf,
-  readyEvent,
-  closedEvent,
-  versionRefusedEvent,
-  offeredEvent,
-  registeredEvent,
-  offerRefusedEvent,
-  serviceEndedEvent,
-  deliveredEvent,
-  dataRefusedEvent,
-  answeredEvent,
-  notedEvent,
-}
-use Rattle.model.specs.Messages.{
-  Effect,
-  effect,
-  services,
-  serviceOf,
-  offeredAs,
-  registeredAs,
-  liveAs,
-  closing,
-  noting,
-  initiated,
-  acknowledged,
-  notAcknowledged,
-  unregistered,
-  offering,
-  withdrawing,
-}
-use Rattle.model.specs.Reading.{View, read, stageOf}
-use Rattle.model.proofs.Choice.{clash, on-pick, both}
+use Rattle.model.specs.Journal.{fieldsOf, readyEvent, closedEvent, versionRefusedEvent, offeredEvent, registeredEvent, offerRefusedEvent, serviceEndedEvent, deliveredEvent, dataRefusedEvent, answeredEvent, notedEvent}
+use Rattle.model.specs.Messages.{Effect, effect, services, offeredAs, closing, noting, initiated, acknowledged, notAcknowledged, unregistered, offering, withdrawing}
+use Rattle.model.specs.Reading.{read, stageOf}
+use Rattle.model.proofs.Choice.{on-pick, both}
 use Rattle.model.proofs.View.{Shape, Moves, stays, service-moves, channel-moves}
 use Rattle.model.proofs.Words.{service-frame, channel-frame}
-use Rattle.model.proofs.Rules.{
-  Base,
-  Removes,
-  Sound,
-  Live,
-  live-rules,
-  live-last,
-  service-idle,
-  service-used,
-  base-later,
-  removes-later,
-}
+use Rattle.model.proofs.Rules.{Base, Removes, Sound, live-rules, live-last, service-idle, service-used, base-later, removes-later}
 use Rattle.model.proofs.Sounds.{base-service, base-channel, removes-same}
-use Rattle.model.proofs.Replies.{
-  short-empty,
-  initAck-short,
-  initNack-short,
-  regReq-short,
-  unreg-short,
-  unregAck-short,
-  unregNack-short,
-}
+use Rattle.model.proofs.Replies.{short-empty, initAck-short, initNack-short, regReq-short, unreg-short, unregAck-short, unregNack-short}
 
 -- what is known of the state that an accepted call is given
 pub record Given (s : List ℕ) : Type 0 where

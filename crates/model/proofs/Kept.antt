@@ -1,55 +1,32 @@
 -- What every call keeps, as specs/Kept.antt states it.
 -- Assumes nothing.
-use Prim.Native.Nat.{ℕ, zero, suc, _+_, _-_, _*_, _/_, _≤_, _<_, min}
+use Prim.Native.Nat.{ℕ, _+_, _-_, _*_, _/_, _≤_, min}
 use native.Mathlib.Omega.{arith}
-use mathlib.Core.Path.{_≡_, refl, sym, ap, _∙_}
-use mathlib.Core.Bool.{Bool, true, false}
-use mathlib.Core.List.{List, [], _∷_, _++_}
-use lib.ListN.{length, getD, drop, take, length-append, length-drop}
-use lib.Seq.{take-at, drop-at, take-append-seam, drop-append-seam}
-use lib.Dec.{eqb}
+use mathlib.Core.Path.{_≡_, refl, sym, _∙_}
+use mathlib.Core.Bool.{true}
+use mathlib.Core.List.{List, [], _∷_}
+use lib.ListN.{length, drop, length-append, length-drop}
+use lib.Seq.{take-at, drop-at, drop-append-seam}
 use borrow.Author.Tests.{eqb-true, eqb-false}
 use Rattle.wire.specs.BigEndian.{written}
-use Rattle.entry.specs.Word.{unpacked}
-use Rattle.model.specs.Choice.{pick}
 use Rattle.model.specs.declared.Started.{Started}
-use Rattle.model.specs.Layout.{lastOf, heldOf, withCounts}
-use Rattle.model.specs.Blocks.{acceptedList, setupState}
+use Rattle.model.specs.Layout.{lastOf, heldOf}
 use Rattle.model.specs.State.{sound}
 use Rattle.model.specs.Refusals.{drainRefusal}
 use Rattle.model.specs.Journal.{fieldsOf, entryOf, entriesAt, wordsOf}
 use Rattle.model.specs.Messages.{Effect}
-use Rattle.model.specs.Calls.{
-  Call,
-  receive,
-  offer,
-  withdraw,
-  close,
-  work,
-  drain,
-  Outcome,
-  outcome,
-  refused,
-  accepted,
-  decided,
-  drained,
-  draining,
-  started,
-}
-use Rattle.model.specs.Reading.{setupView}
+use Rattle.model.specs.Calls.{Call, receive, offer, withdraw, close, work, drain, Outcome, outcome, refused, accepted, decided, drained, draining, started}
 use Rattle.model.specs.Demand3.{Run, after, next, runs, start}
 use Rattle.model.specs.Kept.{SoundnessKept, bufferOf, RefusalKept, EntryAdded, DrainKept, IsNoDrain, CallsKept, RemovalKept}
-use Rattle.model.proofs.Choice.{clash, on-pick}
+use Rattle.model.proofs.Choice.{on-pick}
 use Rattle.model.proofs.Words.{counts-length, last-counts, held-counts, removal-back, removal-again}
 use Rattle.model.proofs.View.{shape-moves}
-use Rattle.model.proofs.Rules.{Sound, sound-facts}
+use Rattle.model.proofs.Rules.{sound-facts}
 use Rattle.model.proofs.Sounds.{sound-counted}
 use Rattle.model.proofs.Ring.{fields-back, stored-same, stored-else, stored-length, length-entries, length-words}
-use Rattle.model.proofs.Effects.{Given, Good, shape}
-use Rattle.model.proofs.Calls.{Taken, Recorded, recorded, drain-passed}
-use Rattle.model.proofs.Setup.{Starts, starts, empty-accepted}
-use Rattle.model.proofs.Lists.{Kept, kept-runs}
-use Rattle.model.proofs.Demand3.{kept-start}
+use Rattle.model.proofs.Effects.{shape}
+use Rattle.model.proofs.Calls.{Taken, recorded}
+use Rattle.model.proofs.Setup.{starts, empty-accepted}
 
 -- An accepted call that is no drain.
 module _ (s j out : List ℕ) (e : Effect) (t : Taken s j out e) where

@@ -1,18 +1,17 @@
 -- The late reply is under the removal's own handle, and only while that is registered.
 -- Assumes nothing.
-use Prim.Native.Nat.{ℕ, zero, suc, _+_, _-_, _*_, _/_, _%_, _^_, _≤_, _<_, min}
+use Prim.Native.Nat.{ℕ, _+_, _%_, _^_, _<_}
 use native.Mathlib.Omega.{arith}
-use mathlib.Core.Path.{_≡_, refl, sym, ap, _∙_}
-use mathlib.Core.Bool.{Bool, true, false}
-use mathlib.Core.List.{List, [], _∷_, _++_, append-assoc}
-use lib.ListN.{length, drop, getD, length-append}
-use lib.Dec.{leb, eqb}
-use borrow.Author.Tests.{eqb-true, eqb-false, leb-true}
+use mathlib.Core.Path.{_≡_, refl, ap, _∙_}
+use mathlib.Core.Bool.{Bool, true}
+use mathlib.Core.List.{List, [], _++_, append-assoc}
+use lib.ListN.{length, drop}
+use lib.Dec.{leb}
+use borrow.Author.Tests.{eqb-true, eqb-false}
 use Rattle.wire.specs.BigEndian.{bytesOf, numberAt, written}
 use Rattle.wire.proofs.Laws.{length-bytes, number-after, number-of-bytes}
-use Rattle.model.specs.Choice.{pick, _and_}
-use Rattle.model.specs.declared.Removal.{Removal}
-use Rattle.model.specs.Layout.{lastOf, heldOf, outstandingOf, isSet, removalOf}
+use Rattle.model.specs.Choice.{_and_}
+use Rattle.model.specs.Layout.{removalOf}
 use Rattle.model.specs.Refusals.{refusalOf}
 use Rattle.model.specs.Messages.{Effect, registeredAs, dsMessage, dsData}
 use Rattle.model.specs.Memory.{memoryReply}
@@ -20,7 +19,7 @@ use Rattle.model.specs.Work.{lateReply, ending, collects, worksOn, stepO
 use Rattle.model.specs.Calls.{Outcome, outcome, decided, accepted, refused, canWork, work}
 use Rattle.model.specs.Kept.{LateReplyKept}
 use Rattle.model.proofs.Choice.{on-pick}
-use Rattle.model.proofs.Rules.{Sound, Outstanding, sound-facts}
+use Rattle.model.proofs.Rules.{sound-facts}
 use Rattle.model.proofs.Calls.{passed}
 
 -- a number behind the k elements of a

@@ -2,14 +2,14 @@
 -- Assumes nothing.
 use Prim.Native.Nat.{ℕ}
 use native.Mathlib.Omega.{arith}
-use mathlib.Core.Path.{_≡_, refl, sym, ap, _∙_}
+use mathlib.Core.Path.{_≡_, refl, ap, _∙_}
 use mathlib.Core.Bool.{Bool, true, false}
-use mathlib.Core.List.{List, [], _∷_}
+use mathlib.Core.List.{List}
 use Rattle.model.specs.Choice.{pick}
 use Rattle.model.specs.declared.Started.{Started}
 use Rattle.model.specs.Blocks.{acceptedList}
-use Rattle.model.specs.Calls.{Call, receive, offer, withdraw, close, work, drain, outcome, started}
-use Rattle.model.specs.Demand3.{Run, after, next, runs, start, Demand3}
+use Rattle.model.specs.Calls.{Call, started}
+use Rattle.model.specs.Demand3.{Run, after, next, runs, start}
 use Rattle.model.specs.Step.{Step, receives, offers, withdraws, closes, works, drains, Steps, done, more, begun, LinkedHolds}
 use Rattle.model.proofs.Demand3.{demand3}
 

@@ -1,58 +1,33 @@
 -- What every list of calls keeps.
 -- Assumes nothing.
-use Prim.Native.Nat.{ℕ, zero, suc, _+_, _-_, _*_, _/_, _%_, _≤_, _<_, min}
+use Prim.Native.Nat.{ℕ, suc, _+_, _-_, _≤_, _<_}
 use native.Mathlib.Omega.{arith}
 use native.Mathlib.Nat.{add-zero}
-use mathlib.Core.Path.{_≡_, refl, sym, ap, _∙_, subst}
+use mathlib.Core.Path.{_≡_, refl, sym, ap, _∙_}
 use mathlib.Core.Bool.{Bool, true, false}
 use mathlib.Core.List.{List, [], _∷_, _++_, append-assoc, append-nil}
-use lib.ListN.{length, getD, set, drop, length-append, List·getD-append}
+use lib.ListN.{length, getD, length-append, List·getD-append}
 use lib.Seq.{getD-append-seam}
-use lib.Dec.{leb, ltb, eqb}
-use borrow.Author.Tests.{leb-true, leb-false, eqb-true, ne-eqb}
+use lib.Dec.{leb, eqb}
+use borrow.Author.Tests.{leb-true, leb-false, eqb-true}
 use Rattle.entry.specs.Word.{unpacked}
 use Rattle.model.specs.Choice.{pick}
 use Rattle.model.specs.Layout.{lastOf, heldOf, withCounts}
 use Rattle.model.specs.State.{sound}
-use Rattle.model.specs.Refusals.{drainRefusal}
-use Rattle.model.specs.Journal.{Event, Entry, fieldsOf, entryOf, stored, entryAt, entriesAt, wordsOf, entriesIn}
+use Rattle.model.specs.Journal.{Event, Entry, fieldsOf, entryOf, stored, entryAt, entriesAt}
 use Rattle.model.specs.Messages.{Effect}
-use Rattle.model.specs.Calls.{
-  Call,
-  receive,
-  offer,
-  withdraw,
-  close,
-  work,
-  drain,
-  Outcome,
-  outcome,
-  refused,
-  accepted,
-  decided,
-  drained,
-  draining,
-}
-use Rattle.model.specs.Reading.{View, read, readEntry, reading, viewOf, setupView}
+use Rattle.model.specs.Calls.{Call, receive, offer, withdraw, close, work, drain, Outcome, outcome, refused, accepted, decided, drained, draining}
+use Rattle.model.specs.Reading.{View, read, readEntry, reading, viewOf}
 use Rattle.model.specs.Demand3.{Run, drainedBy, numberedBy, after, next, runs, entries, noEntry}
 use Rattle.model.specs.Kept.{bufferOf, IsNoDrain}
-use Rattle.model.proofs.Choice.{clash, on-pick}
+use Rattle.model.proofs.Choice.{on-pick}
 use Rattle.model.proofs.Words.{counts-length, last-counts, held-counts}
-use Rattle.model.proofs.View.{Shape, shape-moves, counts-view}
-use Rattle.model.proofs.Rules.{Sound, Base, Counts, base-later, sound-facts}
+use Rattle.model.proofs.View.{shape-moves, counts-view}
+use Rattle.model.proofs.Rules.{sound-facts}
 use Rattle.model.proofs.Sounds.{sound-counted}
-use Rattle.model.proofs.Ring.{
-  fields-back,
-  stored-same,
-  stored-run,
-  entries-snoc,
-  entries-split,
-  length-entries,
-  entries-in,
-  reading-append,
-}
-use Rattle.model.proofs.Effects.{Given, Good, shape}
-use Rattle.model.proofs.Calls.{Taken, Recorded, recorded, drain-passed}
+use Rattle.model.proofs.Ring.{fields-back, stored-same, stored-run, entries-snoc, entries-split, length-entries, entries-in, reading-append}
+use Rattle.model.proofs.Effects.{shape}
+use Rattle.model.proofs.Calls.{Taken, recorded}
 
 -- entries numbered from 1 without gap or repeat, n in all, whose reading, begun from b, is v
 pub record Listed (b : View) (es : List Entry) (n : ℕ) (v : View) : Type 0 where

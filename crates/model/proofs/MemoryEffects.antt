@@ -1,97 +1,29 @@
 -- The memory requests' effects, as Effects.antt shows of the others.
 -- Assumes nothing.
-use Prim.Native.Nat.{ℕ, zero, suc, _+_, _-_, _*_, _/_, _%_, _^_, _≤_, _<_, min}
+use Prim.Native.Nat.{ℕ, zero, suc, _+_, _≤_, _<_}
 use native.Mathlib.Omega.{arith}
-use mathlib.Core.Path.{_≡_, refl, sym, ap, _∙_, subst}
-use mathlib.Core.Bool.{Bool, true, false, not}
-use mathlib.Core.List.{List, [], _∷_, _++_}
-use lib.ListN.{length, getD, set, length-replicate}
-use lib.Dec.{leb, ltb, eqb}
-use borrow.Author.Tests.{ltb-true, ltb-false, leb-true, eqb-true, eqb-false, eq-eqb, ne-eqb, le-leb, lt-ltb, not-true, not-false}
-use Rattle.entry.specs.Word.{InRange}
-use Rattle.model.specs.Choice.{pick, _and_, every, tabulate, joined}
-use Rattle.model.specs.declared.Removal.{Removal}
+use mathlib.Core.Path.{_≡_, refl, ap, _∙_}
+use mathlib.Core.Bool.{Bool, true, false}
+use mathlib.Core.List.{List, []}
+use lib.ListN.{length, getD, length-replicate}
+use lib.Dec.{ltb, eqb}
+use borrow.Author.Tests.{leb-true, eqb-true, eqb-false, lt-ltb, not-false}
+use Rattle.model.specs.Choice.{pick, every}
 use Rattle.model.specs.declared.Request.{Request}
 use Rattle.model.specs.declared.Request.the-variants.{Configure, Unconfigure, Query, Status, Cancel, Malformed}
-use Rattle.model.specs.Layout.{
-  blocksOf,
-  Block,
-  blockIn,
-  blockAt,
-  lastOf,
-  heldOf,
-  outstandingOf,
-  isSet,
-  removalOf,
-  withConfigured,
-  withRemoval,
-}
-use Rattle.model.specs.Blocks.{namedBlock, isNamed}
+use Rattle.model.specs.Layout.{blocksOf, blockAt, lastOf, outstandingOf, isSet, removalOf, withRemoval}
 use Rattle.model.specs.State.{removalRoom, collectedSound, resultsSound}
-use Rattle.model.specs.Journal.{fieldsOf, answeredEvent, configuredEvent, begunEvent, cancelledEvent}
-use Rattle.model.specs.Messages.{Effect, effect}
-use Rattle.model.specs.Memory.{
-  argumentOf,
-  addrIn,
-  sizeIn,
-  hasRecords,
-  hasNothing,
-  requestOf,
-  requestNumber,
-  memoryReply,
-  resultRecord,
-  queryRecord,
-  answering,
-  answeringError,
-  blocked,
-  Progress,
-  oneFailed,
-  oneConfigured,
-  oneUnchanged,
-  configureOne,
-  configuredBy,
-  configureReply,
-  answeringConfigure,
-  begun,
-  beginning,
-  querying,
-  statusRecord,
-  reporting,
-  marked,
-  cancelling,
-  requested,
-  answeredMemory,
-}
-use Rattle.model.specs.Reading.{
-  View,
-  Removing,
-  none,
-  removing,
-  read,
-  seeBlocks,
-  seeRemoval,
-  flagged,
-  configuredIn,
-  markedRemoval,
-  blocksShown,
-  removalShown,
-  viewOf,
-}
-use Rattle.model.proofs.Choice.{clash, on-pick, both, tabulate-at, tabulate-length}
+use Rattle.model.specs.Journal.{fieldsOf, answeredEvent, configuredEvent, cancelledEvent}
+use Rattle.model.specs.Messages.{effect}
+use Rattle.model.specs.Memory.{argumentOf, addrIn, sizeIn, hasRecords, requestOf, requestNumber, memoryReply, answering, answeringError, blocked, Progress, oneFailed, oneConfigured, oneUnchanged, configureOne, configuredBy, configureReply, answeringConfigure, begun, beginning, querying, reporting, marked, cancelling, requested, answeredMemory}
+use Rattle.model.specs.Reading.{View, removing, read, seeBlocks, configuredIn, markedRemoval, blocksShown, removalShown, viewOf}
+use Rattle.model.proofs.Choice.{on-pick, both, tabulate-at, tabulate-length}
 use Rattle.model.proofs.Words.{Arrays, loaded-arrays, configured-frame}
-use Rattle.model.proofs.View.{Shape, Moves, shape-moves, stays, then, turns, configured-moves, removal-moves, noBlock}
-use Rattle.model.proofs.Rules.{Base, Removes, RemovalFacts, Outstanding, Sound, base-later}
+use Rattle.model.proofs.View.{Moves, shape-moves, stays, then, turns, configured-moves, removal-moves, noBlock}
+use Rattle.model.proofs.Rules.{Base}
 use Rattle.model.proofs.Sounds.{named-less, base-configured, base-removal, removes-made, removes-none}
 use Rattle.model.proofs.Mask.{configured-none, configured-more, bit-none}
-use Rattle.model.proofs.Replies.{
-  short-empty,
-  memory-length,
-  results-short,
-  queries-short,
-  result-length,
-  query-length,
-  status-length,
-}
+use Rattle.model.proofs.Replies.{short-empty, memory-length, results-short, queries-short, result-length, query-length, status-length}
 use Rattle.model.proofs.Effects.{Given, Good, shape, base-now, removes-now, answered-good}
 
 -- the blocks that a state shows, one by one

@@ -1,55 +1,21 @@
 -- The effects of a message received, as Effects.antt shows of each.
 -- Assumes nothing.
-use Prim.Native.Nat.{ℕ, zero, suc, _+_, _*_, _/_, _^_, _≤_, _<_}
+use Prim.Native.Nat.{ℕ, _<_}
 use native.Mathlib.Omega.{arith}
-use mathlib.Core.Path.{_≡_, refl, sym, ap, _∙_}
-use mathlib.Core.Bool.{Bool, true, false}
+use mathlib.Core.Path.{_≡_}
+use mathlib.Core.Bool.{true}
 use mathlib.Core.List.{List, []}
-use lib.ListN.{length, drop}
-use lib.Dec.{leb, ltb, eqb}
-use borrow.Author.Tests.{ltb-true, eqb-true, lt-ltb}
-use Rattle.wire.specs.BigEndian.{numberAt}
+use borrow.Author.Tests.{ltb-true, eqb-true}
 use Rattle.wire.proofs.Laws.{number-bound}
-use Rattle.model.specs.Choice.{pick, _and_, firstOf}
 use Rattle.model.specs.declared.Message.{Message}
-use Rattle.model.specs.declared.Message.the-variants.{
-  InitReq,
-  RegReq,
-  RegAck,
-  RegNack,
-  Unreg,
-  UnregAck,
-  UnregNack,
-  Data,
-  Nack,
-  Bad,
-}
-use Rattle.model.specs.Layout.{placeOf, stageAt, handleAt, lastOf}
-use Rattle.model.specs.Messages.{
-  Effect,
-  decoded,
-  decodedByType,
-  wellFormed,
-  offeredAs,
-  registeredAs,
-  liveAs,
-}
-use Rattle.model.specs.Calls.{dataFor, heard, hears, receiving}
+use Rattle.model.specs.declared.Message.the-variants.{InitReq, RegReq, RegAck, RegNack, Unreg, UnregAck, UnregNack, Data, Nack, Bad}
+use Rattle.model.specs.Layout.{placeOf}
+use Rattle.model.specs.Messages.{decoded, decodedByType, offeredAs, registeredAs}
+use Rattle.model.specs.Calls.{dataFor, heard, receiving}
 use Rattle.model.proofs.Choice.{on-pick, both, first-passes}
 use Rattle.model.proofs.Rules.{service-used}
 use Rattle.model.proofs.Replies.{short-empty, regNack-short, nack-short}
-use Rattle.model.proofs.Effects.{
-  Given,
-  Good,
-  closing-good,
-  initiated-good,
-  noting-good,
-  acknowledged-good,
-  not-acknowledged-good,
-  unregistered-good,
-  delivered-good,
-  data-refused-good,
-}
+use Rattle.model.proofs.Effects.{Given, Good, closing-good, initiated-good, noting-good, acknowledged-good, not-acknowledged-good, unregistered-good, delivered-good, data-refused-good}
 use Rattle.model.proofs.MemoryEffects.{memory-good}
 
 -- versions are numbers of 16 bits

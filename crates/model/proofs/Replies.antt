@@ -1,31 +1,15 @@
 -- How long each reply is: none is above 672 bytes.
 -- Assumes nothing.
-use Prim.Native.Nat.{ℕ, zero, suc, _+_, _*_, _≤_, _<_}
+use Prim.Native.Nat.{ℕ, zero, suc, _+_, _≤_}
 use native.Mathlib.Omega.{arith}
-use mathlib.Core.Path.{_≡_, refl, sym, ap, _∙_}
-use mathlib.Core.Bool.{Bool, true, false}
-use mathlib.Core.List.{List, [], _∷_, _++_}
+use mathlib.Core.Path.{_≡_}
+use mathlib.Core.List.{List, []}
 use lib.ListN.{length, length-append}
 use lib.Dec.{eqb}
-use Rattle.wire.specs.BigEndian.{bytesOf}
 use Rattle.wire.proofs.Laws.{length-bytes}
-use Rattle.model.specs.Choice.{pick, joined}
+use Rattle.model.specs.Choice.{joined}
 use Rattle.model.specs.declared.Removal.{Removal}
-use Rattle.model.specs.Messages.{
-  Service,
-  services,
-  serviceOf,
-  dsMessage,
-  initAck,
-  initNack,
-  regReq,
-  regNack,
-  unreg,
-  unregAck,
-  unregNack,
-  dsData,
-  nack,
-}
+use Rattle.model.specs.Messages.{services, serviceOf, dsMessage, initAck, initNack, regReq, regNack, unreg, unregAck, unregNack, dsData, nack}
 use Rattle.model.specs.Memory.{memoryReply, resultRecord, queryRecord, permanentRange, statusRecord}
 use Rattle.model.proofs.Choice.{on-pick, joined-length}
 

@@ -1,43 +1,17 @@
 -- What the tests of a sound state mean, as facts, and back.
 -- Assumes nothing.
-use mathlib.Core.Path.{_≡_, refl, sym, ap, _∙_, subst}
+use mathlib.Core.Path.{_≡_, refl, sym, ap, _∙_}
 use mathlib.Core.Bool.{Bool, true, false, not}
 use mathlib.Core.List.{List}
-use Prim.Native.Nat.{ℕ, zero, suc, _+_, _*_, _/_, _%_, _<_, _≤_}
+use Prim.Native.Nat.{ℕ, _+_, _/_, _%_, _<_, _≤_}
 use native.Mathlib.Omega.{arith}
-use lib.ListN.{getD, length}
-use lib.Dec.{leb, eqb, ltb}
-use borrow.Author.Tests.{not-true, not-false, leb-true, eqb-true, eqb-false, le-leb, eq-eqb, ne-eqb}
+use lib.Dec.{leb, eqb}
+use borrow.Author.Tests.{not-true, leb-true, eqb-true, eqb-false, le-leb, eq-eqb, ne-eqb}
 use Rattle.model.specs.Choice.{pick, _and_, _or_, every}
 use Rattle.model.specs.declared.Removal.{Removal}
-use Rattle.model.specs.Layout.{
-  readyAt,
-  stageAt,
-  handleAt,
-  minorAt,
-  blocksOf,
-  Block,
-  blockIn,
-  blockAt,
-  lastOf,
-  heldOf,
-  outstandingOf,
-  cancelledOf,
-  isSet,
-  removalOf,
-}
+use Rattle.model.specs.Layout.{readyAt, stageAt, handleAt, minorAt, blocksOf, Block, blockAt, lastOf, heldOf, outstandingOf, cancelledOf, isSet, removalOf}
 use Rattle.model.specs.Blocks.{endOf, blockKeeps, endBefore, blocksKeep}
-use Rattle.model.specs.State.{
-  serviceSound,
-  serviceSoundAt,
-  handleApart,
-  removalRoom,
-  collectedSound,
-  resultsSound,
-  removalSound,
-  outstandingSound,
-  sound,
-}
+use Rattle.model.specs.State.{serviceSound, serviceSoundAt, handleApart, removalRoom, collectedSound, resultsSound, removalSound, outstandingSound, sound}
 use Rattle.model.proofs.Choice.{clash, both, join, every-at, every-make}
 
 -- A live service.

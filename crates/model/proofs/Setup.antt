@@ -1,48 +1,22 @@
 -- Setup: the words that it writes, what they show, and that they are sound.
 -- Assumes nothing.
-use Prim.Native.Nat.{ℕ, zero, suc, _+_, _-_, _*_, _/_, _%_, _≤_, _<_}
+use Prim.Native.Nat.{ℕ, zero, suc, _+_, _*_, _/_, _%_, _≤_, _<_}
 use native.Mathlib.Omega.{arith}
-use mathlib.Core.Path.{_≡_, refl, sym, ap, _∙_, subst}
-use mathlib.Core.Bool.{Bool, true, false}
-use mathlib.Core.List.{List, [], _∷_}
-use lib.ListN.{length, getD, set, replicate, length-set, length-replicate, getD-replicate}
-use lib.Seq.{sets, getD-set-same, getD-set-other, length-sets}
-use lib.Dec.{leb, eqb}
+use mathlib.Core.Path.{_≡_, refl, ap, _∙_}
+use mathlib.Core.Bool.{true}
+use mathlib.Core.List.{List, []}
+use lib.ListN.{length, getD, set, replicate, length-set, getD-replicate}
+use lib.Seq.{getD-set-same, getD-set-other, length-sets}
 use borrow.Author.Tests.{leb-true, eqb-true}
-use Rattle.model.specs.Choice.{pick, _and_, every, tabulate}
-use Rattle.model.specs.Layout.{
-  readyAt,
-  stageAt,
-  handleAt,
-  minorAt,
-  blocksOf,
-  Block,
-  blockIn,
-  blockAt,
-  lastOf,
-  heldOf,
-  outstandingOf,
-  isSet,
-  removalOf,
-}
-use Rattle.model.specs.Blocks.{endOf, blockKeeps, endBefore, blocksKeep, acceptedList, setupState}
-use Rattle.model.specs.State.{serviceSound, sound}
-use Rattle.model.specs.Reading.{
-  View,
-  idle,
-  none,
-  stageOf,
-  channelsOf,
-  servicesOf,
-  blocksShown,
-  removalShown,
-  viewOf,
-  setupView,
-}
+use Rattle.model.specs.Choice.{pick, every, tabulate, _and_}
+use Rattle.model.specs.Layout.{blocksOf, blockIn, blockAt, lastOf, heldOf}
+use Rattle.model.specs.Blocks.{blockKeeps, endBefore, blocksKeep, acceptedList, setupState}
+use Rattle.model.specs.State.{sound}
+use Rattle.model.specs.Reading.{stageOf, channelsOf, servicesOf, blocksShown, removalShown, viewOf, setupView}
 use Rattle.model.proofs.Choice.{both, every-at, tabulate-same}
 use Rattle.model.proofs.Words.{sets-below, sets-above, sets-at, removal-same}
 use Rattle.model.proofs.View.{channels-same, services-same, noBlock}
-use Rattle.model.proofs.Rules.{Sound, Base, Removes, sound-test, service-idle}
+use Rattle.model.proofs.Rules.{sound-test, service-idle}
 use Rattle.model.proofs.Sounds.{removes-none}
 
 -- an accepted list as facts

@@ -1,77 +1,23 @@
 -- Each change of the words keeps what a sound state has.
 -- Assumes nothing.
-use mathlib.Core.Path.{_≡_, refl, sym, ap, _∙_, subst}
-use mathlib.Core.Bool.{Bool, true, false, not}
+use mathlib.Core.Path.{_≡_, refl, sym, ap, _∙_}
+use mathlib.Core.Bool.{Bool, true, false}
 use mathlib.Core.List.{List, [], _∷_}
-use Prim.Native.Nat.{ℕ, zero, suc, _+_, _-_, _*_, _/_, _%_, _<_, _≤_}
+use Prim.Native.Nat.{ℕ, zero, suc, _+_, _-_, _*_, _/_, _<_, _≤_}
 use native.Mathlib.Omega.{arith}
-use lib.ListN.{length, getD, set}
-use lib.Dec.{eqb, leb, ltb}
-use borrow.Author.Tests.{eqb-true, eqb-false, eq-eqb, ne-eqb, not-true, ltb-true, ltb-false, lt-ltb, le-ltb}
-use Rattle.model.specs.Choice.{pick, _and_, every}
+use lib.ListN.{length, getD}
+use lib.Dec.{eqb}
+use borrow.Author.Tests.{eqb-true, eqb-false, eq-eqb, not-true, ltb-true}
+use Rattle.model.specs.Choice.{pick, _and_}
 use Rattle.model.specs.declared.Removal.{Removal}
-use Rattle.model.specs.Layout.{
-  readyAt,
-  stageAt,
-  handleAt,
-  minorAt,
-  blocksOf,
-  Block,
-  blockIn,
-  blockAt,
-  lastOf,
-  heldOf,
-  outstandingOf,
-  cancelledOf,
-  isSet,
-  wordOf,
-  removalOf,
-  withChannel,
-  withService,
-  withConfigured,
-  withCounts,
-  withRemoval,
-  withoutRemoval,
-}
+use Rattle.model.specs.Layout.{readyAt, stageAt, handleAt, minorAt, blocksOf, Block, blockAt, outstandingOf, wordOf, removalOf, withChannel, withService, withConfigured, withCounts, withRemoval, withoutRemoval}
 use Rattle.model.specs.Blocks.{endOf, blockKeeps, endBefore, names, namedBelow, namedBlock, isNamed}
-use Rattle.model.specs.State.{serviceSound, roomOf, removalRoom, collectedSound, sound}
+use Rattle.model.specs.State.{serviceSound, roomOf, removalRoom, sound}
 use Rattle.model.specs.Reading.{flagged}
-use Rattle.model.proofs.Choice.{clash, both, pick-true, pick-false}
-use Rattle.model.proofs.Words.{
-  Agree,
-  Arrays,
-  service-frame,
-  service-word,
-  configured-frame,
-  counts-frame,
-  counts-length,
-  last-counts,
-  held-counts,
-  channel-frame,
-  channel-ready,
-  channel-zero,
-  removal-frame,
-  removal-same,
-  removal-back,
-  head-back,
-  without-frame,
-  without-outstanding,
-}
+use Rattle.model.proofs.Choice.{clash}
+use Rattle.model.proofs.Words.{Agree, Arrays, service-frame, service-word, configured-frame, counts-frame, last-counts, held-counts, channel-frame, channel-ready, channel-zero, removal-frame, removal-same, removal-back, head-back, without-frame}
 use Rattle.model.proofs.View.{block-same, flag-other, flag-here}
-use Rattle.model.proofs.Rules.{
-  Base,
-  Keeps,
-  block-rules,
-  block-last,
-  Outstanding,
-  Removes,
-  RemovalFacts,
-  Counts,
-  Sound,
-  service-idle,
-  service-used,
-  sound-test,
-}
+use Rattle.model.proofs.Rules.{Base, block-rules, block-last, Removes, RemovalFacts, service-idle, sound-test}
 
 -- The search for a block goes by bases and sizes.
 pub named-same : (s t : List ℕ) (addr size n : ℕ) → ((i : ℕ) → i < n → names addr size (blockAt t i) ≡ names addr size (blockAt s i)) → namedBelow t addr size n ≡ namedBelow s addr size n

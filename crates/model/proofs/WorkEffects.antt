@@ -1,92 +1,27 @@
 -- The work step's effects, as Effects.antt shows of the others.
 -- Assumes nothing.
-use Prim.Native.Nat.{ℕ, zero, suc, _+_, _-_, _*_, _/_, _%_, _≤_, _<_, min}
+use Prim.Native.Nat.{ℕ, zero, suc, _+_, _-_, _≤_, _<_, min}
 use native.Mathlib.Omega.{arith}
-use mathlib.Core.Path.{_≡_, refl, sym, ap, _∙_, subst}
-use mathlib.Core.Bool.{Bool, true, false, not}
-use mathlib.Core.List.{List, [], _∷_, _++_}
+use mathlib.Core.Path.{_≡_, refl, ap, _∙_}
+use mathlib.Core.Bool.{Bool, true, false}
+use mathlib.Core.List.{List, []}
 use lib.ListN.{length, getD, set, length-set}
 use lib.Seq.{getD-set-same, getD-set-other}
-use lib.Dec.{leb, ltb, eqb}
-use borrow.Author.Tests.{ltb-true, lt-ltb, leb-true, leb-false, eqb-true, eqb-false, eq-eqb, ne-eqb, le-leb, not-true, not-false}
-use Rattle.model.specs.Choice.{pick, _and_, _or_, every, joined}
+use lib.Dec.{eqb}
+use borrow.Author.Tests.{ltb-true, lt-ltb, leb-false, eqb-true, eqb-false, eq-eqb, ne-eqb, not-false}
+use Rattle.model.specs.Choice.{pick, _or_, _and_}
 use Rattle.model.specs.declared.Removal.{Removal}
-use Rattle.model.specs.Layout.{
-  blocksOf,
-  Block,
-  blockAt,
-  lastOf,
-  heldOf,
-  outstandingOf,
-  isSet,
-  removalOf,
-  withConfigured,
-  withRemoval,
-  withoutRemoval,
-}
-use Rattle.model.specs.Blocks.{blockKeeps, endBefore, namedBlock, isNamed}
+use Rattle.model.specs.Layout.{blocksOf, Block, blockAt, lastOf, outstandingOf, isSet, removalOf, withConfigured, withRemoval, withoutRemoval}
 use Rattle.model.specs.State.{roomOf, removalRoom, collectedSound, resultsSound}
 use Rattle.model.specs.Journal.{fieldsOf, collectedEvent, settledEvent, removalEndEvent}
-use Rattle.model.specs.Messages.{Effect, effect}
-use Rattle.model.specs.Memory.{memoryReply, resultRecord}
-use Rattle.model.specs.Work.{
-  addrNow,
-  sizeNow,
-  blockNow,
-  isKnown,
-  allSettled,
-  ends,
-  endCode,
-  resultAt,
-  lateReply,
-  ending,
-  settled,
-  collecting,
-  pagesMoved,
-  collects,
-  worksOn,
-  stepOf,
-  working,
-}
-use Rattle.model.specs.Reading.{
-  View,
-  Removing,
-  none,
-  removing,
-  read,
-  seeBlocks,
-  seeRemoval,
-  flagged,
-  unconfiguredIn,
-  steppedRemoval,
-  addedPages,
-  blocksShown,
-  viewOf,
-}
-use Rattle.model.proofs.Choice.{clash, on-pick, both, or-false, every-at, every-make, pick-true}
-use Rattle.model.proofs.Words.{Arrays, loaded-arrays, configured-frame, configured-length, without-outstanding}
-use Rattle.model.proofs.View.{
-  Shape,
-  Moves,
-  shape-moves,
-  then,
-  turns,
-  configured-moves,
-  removal-moves,
-  without-moves,
-  noBlock,
-}
-use Rattle.model.proofs.Rules.{Base, Removes, RemovalFacts, Outstanding, Sound, Keeps, block-rules}
-use Rattle.model.proofs.Sounds.{
-  named-less,
-  base-configured,
-  base-removal,
-  base-without,
-  removes-made,
-  removes-none,
-  count-flag,
-  named-flag,
-}
+use Rattle.model.specs.Messages.{effect}
+use Rattle.model.specs.Work.{addrNow, sizeNow, blockNow, isKnown, ends, endCode, lateReply, ending, settled, collecting, pagesMoved, collects, worksOn, stepOf, working}
+use Rattle.model.specs.Reading.{read, seeBlocks, seeRemoval, flagged, unconfiguredIn, steppedRemoval, addedPages, blocksShown, viewOf}
+use Rattle.model.proofs.Choice.{on-pick, or-false, every-at, every-make}
+use Rattle.model.proofs.Words.{Arrays, loaded-arrays, without-outstanding}
+use Rattle.model.proofs.View.{shape-moves, then, turns, configured-moves, removal-moves, without-moves, noBlock}
+use Rattle.model.proofs.Rules.{RemovalFacts, block-rules}
+use Rattle.model.proofs.Sounds.{named-less, base-configured, base-removal, base-without, removes-made, removes-none}
 use Rattle.model.proofs.Mask.{unconfigured-set}
 use Rattle.model.proofs.Replies.{short-empty, results-short, result-length}
 use Rattle.model.proofs.Effects.{Given, Good, shape, base-now, removes-now}

@@ -8,56 +8,14 @@ use lib.Dec.{leb, ltb, eqb}
 use Rattle.wire.specs.BigEndian.{written}
 use Rattle.model.specs.Choice.{pick, _and_, _or_, firstOf}
 use Rattle.model.specs.declared.Message.{Message}
-use Rattle.model.specs.declared.Message.the-variants.{
-  InitReq,
-  RegReq,
-  RegAck,
-  RegNack,
-  Unreg,
-  UnregAck,
-  UnregNack,
-  Data,
-  Nack,
-  Bad,
-}
+use Rattle.model.specs.declared.Message.the-variants.{InitReq, RegReq, RegAck, RegNack, Unreg, UnregAck, UnregNack, Data, Nack, Bad}
 use Rattle.model.specs.declared.Started.{Started}
 use Rattle.model.specs.Layout.{readyAt, placeOf, stageAt, lastOf, heldOf, outstandingOf, isSet, withCounts}
 use Rattle.model.specs.Blocks.{acceptedList, setupState}
 use Rattle.model.specs.State.{sound}
 use Rattle.model.specs.Refusals.{refusalOf, drainRefusal}
-use Rattle.model.specs.Journal.{
-  Event,
-  deliveredEvent,
-  dataRefusedEvent,
-  entryOf,
-  stored,
-  entriesAt,
-  wordsOf,
-}
-use Rattle.model.specs.Messages.{
-  DS-REG-REQ,
-  DS-UNREG-ACK,
-  DS-UNREG-NACK,
-  DS-NACK,
-  DS-REG-VER-NACK,
-  DS-INV-HDL,
-  Effect,
-  effect,
-  decoded,
-  regNack,
-  nack,
-  offeredAs,
-  registeredAs,
-  liveAs,
-  closing,
-  noting,
-  initiated,
-  acknowledged,
-  notAcknowledged,
-  unregistered,
-  offering,
-  withdrawing,
-}
+use Rattle.model.specs.Journal.{Event, deliveredEvent, dataRefusedEvent, entryOf, stored, entriesAt, wordsOf}
+use Rattle.model.specs.Messages.{DS-REG-REQ, DS-UNREG-ACK, DS-UNREG-NACK, DS-NACK, DS-REG-VER-NACK, DS-INV-HDL, Effect, effect, decoded, regNack, nack, offeredAs, registeredAs, liveAs, closing, noting, initiated, acknowledged, notAcknowledged, unregistered, offering, withdrawing}
 use Rattle.model.specs.Memory.{answeredMemory}
 use Rattle.model.specs.Work.{working}
 

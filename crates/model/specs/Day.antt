@@ -1,8 +1,7 @@
 -- "A day at the panel": C1 to C10, of one list of calls.
 -- Assumes nothing.
-use Prim.Native.Nat.{ℕ, _+_}
+use Prim.Native.Nat.{ℕ}
 use mathlib.Core.Path.{_≡_}
-use mathlib.Core.Bool.{true}
 use mathlib.Core.List.{List, [], _∷_, _++_}
 use lib.ListN.{getD, take, drop, replicate}
 use Rattle.wire.specs.BigEndian.{bytesOf}

@@ -2,7 +2,7 @@
 -- A message is any list of numbers, each read as a byte; journals, runs and block lists are any lists; channels, services and budgets
 -- any numbers. Nothing is asked but that setup accepts the block list.
 -- Assumes nothing.
-use Prim.Native.Nat.{ℕ, zero, suc, _+_, _-_, _*_, _≤_, _<_}
+use Prim.Native.Nat.{ℕ, _+_, _-_, _≤_, _<_}
 use mathlib.Core.Path.{_≡_}
 use mathlib.Core.Bool.{Bool, true, false, not}
 use mathlib.Core.List.{List, [], _∷_, _++_}

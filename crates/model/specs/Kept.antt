@@ -1,30 +1,19 @@
 -- What every call keeps: soundness; what a refusal leaves; the slot, the output and the run that a call may touch.
 -- Assumes nothing.
-use Prim.Native.Nat.{ℕ, zero, suc, _+_, _-_, _*_, _/_, _≤_, _<_, min}
+use Prim.Native.Nat.{ℕ, _+_, _-_, _*_, _/_, _≤_, _<_, min}
 use mathlib.Core.Path.{_≡_}
-use mathlib.Core.Bool.{Bool, true, false}
-use mathlib.Core.List.{List, [], _∷_, _++_}
+use mathlib.Core.Bool.{true}
+use mathlib.Core.List.{List}
 use lib.ListN.{length, getD, drop, take}
 use Rattle.wire.specs.BigEndian.{numberAt}
-use Rattle.entry.specs.declared.Fields.{Fields}
 use Rattle.entry.specs.Word.{unpacked}
 use Rattle.model.specs.declared.Removal.{Removal}
-use Rattle.model.specs.Layout.{
-  stateWords,
-  lastOf,
-  heldOf,
-  outstandingOf,
-  cancelledOf,
-  removalOf,
-  withCounts,
-  withRemoval,
-}
-use Rattle.model.specs.Blocks.{acceptedList}
+use Rattle.model.specs.Layout.{stateWords, lastOf, heldOf, outstandingOf, cancelledOf, removalOf, withCounts, withRemoval}
 use Rattle.model.specs.State.{sound}
 use Rattle.model.specs.Journal.{slotOf, entriesAt, wordsOf, entryAt}
 use Rattle.model.specs.Messages.{registeredAs}
 use Rattle.model.specs.Calls.{Call, receive, offer, withdraw, close, work, drain, Outcome, outcome, started}
-use Rattle.model.specs.Demand3.{Run, runs, start}
+use Rattle.model.specs.Demand3.{runs, start}
 
 -- Setup's state is sound, every call keeps a sound state sound, and so refusal 8 meets no state that the agent made.
 pub record SoundnessKept : Type 0 where

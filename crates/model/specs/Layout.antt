@@ -13,7 +13,7 @@
 --   159 .. 174   the records' sizes
 --   175 .. 190   the settled records' results: 0 OK, 4 NOWORK
 -- Assumes nothing.
-use Prim.Native.Nat.{ℕ, zero, suc, _+_, _*_}
+use Prim.Native.Nat.{ℕ, _+_, _*_}
 use mathlib.Core.Bool.{Bool, true, false, not}
 use mathlib.Core.List.{List, [], _∷_}
 use lib.ListN.{getD, set, replicate}

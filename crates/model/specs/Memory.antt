@@ -3,23 +3,14 @@
 use Prim.Native.Nat.{ℕ, zero, suc, _+_, _-_, _*_, _%_, _^_}
 use mathlib.Core.Bool.{Bool, true, false, not}
 use mathlib.Core.List.{List, [], _∷_, _++_}
-use lib.ListN.{length, getD, set, replicate}
+use lib.ListN.{length, getD, replicate}
 use lib.Dec.{leb, ltb, eqb}
 use Rattle.wire.specs.BigEndian.{numberAt, bytesOf}
 use Rattle.model.specs.Choice.{pick, _and_, every, tabulate, joined}
 use Rattle.model.specs.declared.Removal.{Removal}
 use Rattle.model.specs.declared.Request.{Request}
 use Rattle.model.specs.declared.Request.the-variants.{Configure, Unconfigure, Query, Status, Cancel, Malformed}
-use Rattle.model.specs.Layout.{
-  Block,
-  blockAt,
-  blocksOf,
-  outstandingOf,
-  isSet,
-  removalOf,
-  withConfigured,
-  withRemoval,
-}
+use Rattle.model.specs.Layout.{blockAt, outstandingOf, isSet, removalOf, withConfigured, withRemoval}
 use Rattle.model.specs.Blocks.{pageSize, namedBlock, isNamed}
 use Rattle.model.specs.Journal.{answeredEvent, configuredEvent, begunEvent, cancelledEvent}
 use Rattle.model.specs.Messages.{Effect, effect, dsData}

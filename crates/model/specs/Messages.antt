@@ -1,37 +1,16 @@
 -- "DS messages": the service table, the messages' layouts, when a message is well formed, and what each does.
 -- Assumes nothing.
-use Prim.Native.Nat.{ℕ, zero, suc, _+_, _-_, _*_, min}
-use mathlib.Core.Bool.{Bool, true, false, not}
+use Prim.Native.Nat.{ℕ, _+_, _-_, min}
+use mathlib.Core.Bool.{Bool, false, not}
 use mathlib.Core.List.{List, [], _∷_, _++_}
 use lib.ListN.{length, getD}
 use lib.Dec.{leb, ltb, eqb}
 use Rattle.wire.specs.BigEndian.{byteAt, numberAt, bytesOf}
-use Rattle.model.specs.Choice.{pick, _and_, every, firstOf}
+use Rattle.model.specs.Choice.{pick, _and_, every}
 use Rattle.model.specs.declared.Message.{Message}
-use Rattle.model.specs.declared.Message.the-variants.{
-  InitReq,
-  RegReq,
-  RegAck,
-  RegNack,
-  Unreg,
-  UnregAck,
-  UnregNack,
-  Data,
-  Nack,
-  Bad,
-}
-use Rattle.model.specs.Layout.{readyAt, placeOf, stageAt, handleAt, lastOf, withChannel, withService}
-use Rattle.model.specs.Journal.{
-  Event,
-  readyEvent,
-  closedEvent,
-  versionRefusedEvent,
-  offeredEvent,
-  registeredEvent,
-  offerRefusedEvent,
-  serviceEndedEvent,
-  notedEvent,
-}
+use Rattle.model.specs.declared.Message.the-variants.{InitReq, RegReq, RegAck, RegNack, Unreg, UnregAck, UnregNack, Data, Nack, Bad}
+use Rattle.model.specs.Layout.{placeOf, stageAt, handleAt, lastOf, withChannel, withService}
+use Rattle.model.specs.Journal.{Event, readyEvent, closedEvent, versionRefusedEvent, offeredEvent, registeredEvent, offerRefusedEvent, serviceEndedEvent, notedEvent}
 
 -- "Four services, from a table": id with its zero, major and minor version
 pub record Service : Type 0 where

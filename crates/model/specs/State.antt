@@ -3,28 +3,14 @@
 -- sound. Words without a meaning in the present state (blocks past the count, a removal's words while none is outstanding, its records past the count, results
 -- from the position on) are free.
 -- Assumes nothing.
-use Prim.Native.Nat.{ℕ, zero, suc, _+_, _*_, _/_}
-use mathlib.Core.Bool.{Bool, true, false, not}
+use Prim.Native.Nat.{ℕ, _/_}
+use mathlib.Core.Bool.{Bool, not}
 use mathlib.Core.List.{List}
 use lib.ListN.{getD}
 use lib.Dec.{ltb, leb, eqb}
 use Rattle.model.specs.Choice.{pick, _and_, _or_, every}
 use Rattle.model.specs.declared.Removal.{Removal}
-use Rattle.model.specs.Layout.{
-  readyAt,
-  stageAt,
-  handleAt,
-  minorAt,
-  firstBlockWord,
-  blocksOf,
-  Block,
-  blockAt,
-  lastOf,
-  heldOf,
-  outstandingOf,
-  cancelledOf,
-  removalOf,
-}
+use Rattle.model.specs.Layout.{readyAt, stageAt, handleAt, minorAt, firstBlockWord, blocksOf, blockAt, lastOf, heldOf, outstandingOf, cancelledOf, removalOf}
 use Rattle.model.specs.Blocks.{blocksKeep, namedBlock, isNamed}
 
 -- "services on closed channels are idle; live handles .. lie between 1 and the last entry number used"

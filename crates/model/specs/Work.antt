@@ -1,26 +1,17 @@
 -- "Each work step does one thing": the work step and the late reply.
 -- Assumes nothing.
-use Prim.Native.Nat.{ℕ, zero, suc, _+_, _-_, _*_, min}
-use mathlib.Core.Bool.{Bool, true, false, not}
+use Prim.Native.Nat.{ℕ, _+_, _-_, min}
+use mathlib.Core.Bool.{Bool, not}
 use mathlib.Core.List.{List, []}
 use lib.ListN.{getD, set}
 use lib.Dec.{leb, ltb, eqb}
-use Rattle.model.specs.Choice.{pick, _and_, _or_, joined}
+use Rattle.model.specs.Choice.{pick, _or_, joined}
 use Rattle.model.specs.declared.Removal.{Removal}
-use Rattle.model.specs.Layout.{Block, blockAt, removalOf, placeOf, withConfigured, withRemoval, withoutRemoval}
+use Rattle.model.specs.Layout.{blockAt, removalOf, withConfigured, withRemoval, withoutRemoval}
 use Rattle.model.specs.Blocks.{namedBlock, isNamed}
 use Rattle.model.specs.Journal.{collectedEvent, settledEvent, removalEndEvent}
 use Rattle.model.specs.Messages.{Effect, effect, registeredAs}
-use Rattle.model.specs.Memory.{
-  DR-MEM-OK,
-  DR-MEM-RES-OK,
-  DR-MEM-RES-FAILURE,
-  DR-MEM-RES-CANCELLED,
-  DR-MEM-RES-NOWORK,
-  DR-MEM-RES-PERM,
-  memoryReply,
-  resultRecord,
-}
+use Rattle.model.specs.Memory.{DR-MEM-OK, DR-MEM-RES-OK, DR-MEM-RES-FAILURE, DR-MEM-RES-CANCELLED, DR-MEM-RES-NOWORK, DR-MEM-RES-PERM, memoryReply, resultRecord}
 
 -- the record at the position
 abbrev pub addrNow : Removal → ℕ
