@@ -14,7 +14,8 @@ use Rattle.entry.specs.Word.{unpacked}
 use Rattle.model.specs.Choice.{pick}
 use Rattle.model.specs.Layout.{lastOf, heldOf, withCounts}
 use Rattle.model.specs.State.{sound}
-use Rattle.model.specs.Journal.{Event, Entry, fieldsOf, entryOf, stored, entryAt, entriesAt}
+use Rattle.model.specs.declared.Event.{Event}
+use Rattle.model.specs.Journal.{Entry, fieldsOf, entryOf, stored, entryAt, entriesAt}
 use Rattle.model.specs.Messages.{Effect}
 use Rattle.model.specs.Calls.{Call, receive, offer, withdraw, close, work, drain, Outcome, outcome, refused, accepted, decided, drained, draining}
 use Rattle.model.specs.Reading.{View, read, readEntry, reading, viewOf}

@@ -14,7 +14,8 @@ use Rattle.model.specs.Layout.{readyAt, placeOf, stageAt, lastOf, heldOf
 use Rattle.model.specs.Blocks.{acceptedList, setupState}
 use Rattle.model.specs.State.{sound}
 use Rattle.model.specs.Refusals.{refusalOf, drainRefusal}
-use Rattle.model.specs.Journal.{Event, deliveredEvent, dataRefusedEvent, entryOf, stored, entriesAt, wordsOf}
+use Rattle.model.specs.declared.Event.{Event}
+use Rattle.model.specs.Journal.{deliveredEvent, dataRefusedEvent, entryOf, stored, entriesAt, wordsOf}
 use Rattle.model.specs.Messages.{DS-REG-REQ, DS-UNREG-ACK, DS-UNREG-NACK, DS-NACK, DS-REG-VER-NACK, DS-INV-HDL, Effect, effect, decoded, regNack, nack, offeredAs, registeredAs, liveAs, closing, noting, initiated, acknowledged, notAcknowledged, unregistered, offering, withdrawing}
 use Rattle.model.specs.Memory.{answeredMemory}
 use Rattle.model.specs.Work.{working}

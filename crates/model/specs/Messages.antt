@@ -10,7 +10,8 @@ use Rattle.model.specs.Choice.{pick, _and_, every}
 use Rattle.model.specs.declared.Message.{Message}
 use Rattle.model.specs.declared.Message.the-variants.{InitReq, RegReq, RegAck, RegNack, Unreg, UnregAck, UnregNack, Data, Nack, Bad}
 use Rattle.model.specs.Layout.{placeOf, stageAt, handleAt, lastOf, withChannel, withService}
-use Rattle.model.specs.Journal.{Event, readyEvent, closedEvent, versionRefusedEvent, offeredEvent, registeredEvent, offerRefusedEvent, serviceEndedEvent, notedEvent}
+use Rattle.model.specs.declared.Event.{Event}
+use Rattle.model.specs.Journal.{readyEvent, closedEvent, versionRefusedEvent, offeredEvent, registeredEvent, offerRefusedEvent, serviceEndedEvent, notedEvent}
 
 -- "Four services, from a table": id with its zero, major and minor version
 pub record Service : Type 0 where
