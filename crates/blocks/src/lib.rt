@@ -8,19 +8,28 @@ ghost use Rattle.model.specs.Layout.{blockIn, blocksOf, firstBlockWord};
 ghost use Rattle.model.specs.Blocks.{blockKeeps, endBefore, blocksKeep, acceptedList, names, namedBlock};
 ghost use Rattle.blocks.specs.Permanent.{permanentKeeps};
 
-// The word of the state that holds the number of blocks.
+// The state's words that hold the number of blocks, and block 0; the other blocks follow it.
 pub const BLOCK_COUNT: usize = 52;
 
-// The first word of block 0: base, pages, first permanent page, permanent pages, configured; block 1's five words follow.
 pub const FIRST_BLOCK: usize = 53;
 
+// A block's words: its base, and at these places its pages, first permanent page, permanent pages, configured.
 pub const BLOCK_WORDS: usize = 5;
+
+pub const PAGES: usize = 1;
+
+pub const FIRST: usize = 2;
+
+pub const PERMANENT: usize = 3;
+
+pub const CONFIGURED: usize = 4;
 
 pub const PAGE_SIZE: u64 = 8192;
 
 const MOST_BLOCKS: usize = 16;
 
 const MOST_PAGES: u64 = 1048576;
+
 // 2^63
 const HIGHEST_END: u64 = 9223372036854775808;
 
@@ -85,8 +94,15 @@ fn keep_rules(words: &[u64], at: usize, n: usize) -> bool
     while i < n {
         let b = at + i * BLOCK_WORDS;
         let base = words[b];
-        let pages = words[b + 1];
-        if !block_keeps(base, pages, words[b + 2], words[b + 3], words[b + 4], floor) {
+        let pages = words[b + PAGES];
+        if !block_keeps(
+            base,
+            pages,
+            words[b + FIRST],
+            words[b + PERMANENT],
+            words[b + CONFIGURED],
+            floor,
+        ) {
             return false;
         }
         floor = base + pages * PAGE_SIZE;
@@ -120,7 +136,8 @@ pub fn state_blocks_keep(state: &State) -> bool
     keep_rules(state, FIRST_BLOCK, n)
 }
 
-// "A pair names a block if addr is its base and size is all of it." By division: a product of `pages` could wrap.
+// "A pair names a block if addr is its base and size is all of it": its other words do not matter. By division, since a product of
+// any `pages` could wrap.
 fn names_block(base: u64, pages: u64, addr: u64, size: u64) -> bool
     ensures { λ r. ⌜ r ≡ names addr size (record { base = base; pages = pages; first = 0; permanent = 0; configured = 0 }) ⌝ }
 {
@@ -142,7 +159,7 @@ pub fn named_block(state: &State, addr: u64, size: u64) -> usize
     let mut i: usize = 0;
     while i < n {
         let b = FIRST_BLOCK + i * BLOCK_WORDS;
-        if names_block(state[b], state[b + 1], addr, size) {
+        if names_block(state[b], state[b + PAGES], addr, size) {
             return i;
         }
         i += 1;
