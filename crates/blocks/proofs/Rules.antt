@@ -1,0 +1,79 @@
+-- The rules of a block, of the block that a pair names, and of a list of blocks, as facts.
+-- Assumes nothing.
+use mathlib.Core.Path.{_≡_, refl, sym, _∙_}
+use mathlib.Core.Bool.{Bool, true, false}
+use mathlib.Core.List.{List}
+use Prim.Native.Nat.{ℕ, _+_, _*_, _/_, _%_, _≤_}
+use native.Mathlib.Omega.{arith}
+use lib.ListN.{length}
+use lib.Dec.{eqb, leb}
+use borrow.Author.Tests.{eqb-true, eqb-false, eq-eqb, leb-true, le-leb}
+use Rattle.blocks.specs.Permanent.{permanentKeeps}
+use Rattle.model.specs.Choice.{pick, _and_, every}
+use Rattle.model.specs.Layout.{Block, blockIn}
+use Rattle.model.specs.Blocks.{sizeOf, endOf, blockKeeps, endBefore, blocksKeep, acceptedList, names}
+use Rattle.model.proofs.Choice.{both}
+
+-- where the block lies, and how long it is
+pub record Lies (b : Block) (floor : ℕ) : Type 0 where
+  pub aligned : b .base % 8192 ≡ 0
+  pub some : 1 ≤ b .pages
+  pub few : b .pages ≤ 1048576
+  pub below : endOf b ≤ 9223372036854775808
+  pub above : floor ≤ b .base
+
+-- where those hold, the rules of its permanent pages decide
+pub lies-last : (b : Block) (floor : ℕ) → Lies b floor → blockKeeps b floor ≡ permanentKeeps (b .pages) (b .first) (b .permanent) (b .configured)
+unfolding blockKeeps permanentKeeps _and_
+lies-last b floor r =
+    rw (
+      eq-eqb _ _ (r .aligned),
+      le-leb _ _ (r .some),
+      le-leb _ _ (r .few),
+      le-leb _ _ (r .below),
+      le-leb _ _ (r .above),
+    )
+
+module _ (pages first permanent configured : ℕ) where
+  pub permanent-rules : permanentKeeps pages first permanent configured ≡ true → (first + permanent ≤ pages) × (configured ≤ 1)
+  unfolding permanentKeeps
+  permanent-rules t = let u = both _ _ t in (leb-true _ _ (u .0), leb-true _ _ (both _ _ (u .1) .0))
+
+  pub permanent-last : first + permanent ≤ pages → configured ≤ 1 → permanentKeeps pages first permanent configured ≡ pick (eqb permanent 0) (eqb first 0) (eqb configured 1)
+  unfolding permanentKeeps _and_
+  permanent-last w f = rw (le-leb _ _ w, le-leb _ _ f)
+
+module _ (addr size : ℕ) (b : Block) where
+  pub names-rules : names addr size b ≡ true → (b .base ≡ addr) × (sizeOf b ≡ size)
+  unfolding names
+  names-rules t = let u = both _ _ t in (eqb-true _ _ (u .0), eqb-true _ _ (u .1))
+
+  -- by division, where the size is whole pages
+  pub names-divided : b .base ≡ addr → size % 8192 ≡ 0 → eqb (size / 8192) (b .pages) ≡ names addr size b
+  unfolding names _and_
+  names-divided e w = rw (eq-eqb _ _ e) (go (eqb (size / 8192) (b .pages)) refl (eqb (sizeOf b) size) refl)
+    where
+      go : (x : Bool) → eqb (size / 8192) (b .pages) ≡ x → (y : Bool) → eqb (sizeOf b) size ≡ y → x ≡ y
+      go true p true q = refl
+      go true p false q = absurd (eqb-false (sizeOf b) size q (omega (arith, eqb-true (size / 8192) (b .pages) p)))
+      go false p true q = absurd (eqb-false (size / 8192) (b .pages) p (omega (arith, eqb-true (sizeOf b) size q)))
+      go false p false q = refl
+
+-- a list of blocks
+module _ (l : List ℕ) (at n : ℕ) where
+  pub blocks-rules : blocksKeep l at n ≡ true → n ≤ 16
+  unfolding blocksKeep
+  blocks-rules t = leb-true _ _ (both _ _ t .0)
+
+  pub blocks-last : n ≤ 16 → blocksKeep l at n ≡ every n (λ i. blockKeeps (blockIn l at i) (endBefore l at i))
+  unfolding blocksKeep _and_
+  blocks-last h = rw (le-leb _ _ h)
+
+module _ (l : List ℕ) where
+  pub accepted-rules : acceptedList l ≡ true → (length l % 5 ≡ 0) × (length l / 5 ≤ 16)
+  unfolding acceptedList
+  accepted-rules t = let u = both _ _ t in (eqb-true _ _ (u .0), blocks-rules _ _ _ (u .1))
+
+  pub accepted-last : length l % 5 ≡ 0 → acceptedList l ≡ blocksKeep l 0 (length l / 5)
+  unfolding acceptedList _and_
+  accepted-last e = rw (eq-eqb _ _ e)

@@ -1,0 +1,24 @@
+-- `blocks::accepted_list` meets its contract: each early answer breaks a rule, and past them the loop decides.
+-- Assumes nothing.
+use mathlib.Core.Path.{sym, _∙_}
+use native.Mathlib.Omega.{arith}
+use borrow.Author.Needs.{needs}
+use Rattle.blocks.proofs.Loops.{refute}
+use Rattle.blocks.proofs.Rules.{accepted-rules, accepted-last, blocks-last}
+use Rattle.blocks.proofs.accepted_list.Statement.{statement}
+use Rattle.blocks.proofs.accepted_list.Tie as tie
+
+returns : tie.Need-returns
+returns c = refute _ (λ t. let r = accepted-rules _ t in omega arith)
+
+returns-2 : tie.Need-returns-2
+returns-2 c = refute _ (λ t. let r = accepted-rules _ t in omega arith)
+
+keep-rules-requires : tie.Need-keep-rules-requires
+keep-rules-requires c κs = search needs
+
+returns-3 : tie.Need-returns-3
+returns-3 c = c .keep-rules .ensures ∙ sym (accepted-last _ (omega arith) ∙ blocks-last _ _ _ (omega arith))
+
+pub accepted-list-spec : {M : Type 1} → statement M
+accepted-list-spec = tie.close (tie.spec returns returns-2 keep-rules-requires returns-3)
