@@ -1,0 +1,20 @@
+use borrow.Author.Tests.{ne-eqb}
+use Rattle.model.specs.Choice.{_and_}
+use Rattle.model.specs.Memory.{hasNothing}
+use borrow.Author.Needs.{needs}
+use Rattle.requests.proofs.has_nothing.Statement.{statement}
+use Rattle.requests.proofs.has_nothing.Tie as tie
+
+get32-requires : tie.Need-get32-requires
+get32-requires c κs = search needs
+
+returns : tie.Need-returns
+unfolding hasNothing _and_
+returns c = rw (← c .before .get32 .ensures .0, ne-eqb _ _ (c .if1 .taken))
+
+returns-2 : tie.Need-returns-2
+unfolding hasNothing _and_
+returns-2 c = rw (← c .before .get32 .ensures .0, c .if1 .left)
+
+pub has-nothing-spec : {M : Type 1} → statement M
+has-nothing-spec = tie.close (tie.spec get32-requires returns returns-2)
