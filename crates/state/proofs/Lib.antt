@@ -2,3 +2,5 @@
 -- Assumes nothing.
 pub mod Runs
 pub mod Rules
+pub mod Firsts
+pub mod RoundTrip

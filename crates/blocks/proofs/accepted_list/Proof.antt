@@ -2,7 +2,6 @@
 -- Assumes nothing.
 use mathlib.Core.Path.{sym, _∙_}
 use native.Mathlib.Omega.{arith}
-use borrow.Author.Needs.{needs}
 use Rattle.blocks.proofs.Loops.{refute}
 use Rattle.blocks.proofs.Rules.{accepted-rules, accepted-last, blocks-last}
 use Rattle.blocks.proofs.accepted_list.Statement.{statement}
@@ -15,7 +14,7 @@ returns-2 : tie.Need-returns-2
 returns-2 c = refute _ (λ t. let r = accepted-rules _ t in omega arith)
 
 keep-rules-requires : tie.Need-keep-rules-requires
-keep-rules-requires c κs = search needs
+keep-rules-requires c κs = (omega arith, omega arith)
 
 returns-3 : tie.Need-returns-3
 returns-3 c = c .keep-rules .ensures ∙ sym (accepted-last _ (omega arith) ∙ blocks-last _ _ _ (omega arith))

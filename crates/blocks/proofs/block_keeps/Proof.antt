@@ -2,7 +2,6 @@
 -- Assumes nothing.
 use mathlib.Core.Path.{sym, _∙_}
 use native.Mathlib.Omega.{arith}
-use borrow.Author.Needs.{needs}
 use Rattle.model.proofs.Rules.{block-rules}
 use Rattle.blocks.proofs.Loops.{refute}
 use Rattle.blocks.proofs.Rules.{lies-last}
@@ -22,10 +21,10 @@ returns-4 : tie.Need-returns-4
 returns-4 c = refute _ (λ t. let r = block-rules _ _ t .0 in omega arith)
 
 mul-if5 : tie.Need-mul-if5
-mul-if5 c = search needs
+mul-if5 c = omega arith
 
 add-if5 : tie.Need-add-if5
-add-if5 c = search needs
+add-if5 c = omega arith
 
 returns-5 : tie.Need-returns-5
 returns-5 c = refute _ (λ t. let r = block-rules _ _ t .0 in omega arith)
@@ -34,7 +33,7 @@ returns-6 : tie.Need-returns-6
 returns-6 c = refute _ (λ t. let r = block-rules _ _ t .0 in omega arith)
 
 permanent-keeps-requires : tie.Need-permanent-keeps-requires
-permanent-keeps-requires c κs = search needs
+permanent-keeps-requires c κs = tt
 
 returns-7 : tie.Need-returns-7
 returns-7 c = c .permanent-keeps .ensures ∙ sym (lies-last _ _ (omega arith))

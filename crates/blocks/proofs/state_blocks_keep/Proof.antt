@@ -2,20 +2,19 @@
 -- Assumes nothing.
 use mathlib.Core.Path.{sym, _∙_}
 use native.Mathlib.Omega.{arith}
-use borrow.Author.Needs.{needs}
 use Rattle.blocks.proofs.Loops.{refute}
 use Rattle.blocks.proofs.Rules.{blocks-rules, blocks-last}
 use Rattle.blocks.proofs.state_blocks_keep.Statement.{statement}
 use Rattle.blocks.proofs.state_blocks_keep.Tie as tie
 
 element-copy-out-n : tie.Need-element-copy-out-n
-element-copy-out-n c = search needs
+element-copy-out-n c = omega arith
 
 returns : tie.Need-returns
 returns c = refute _ (λ t. let r = blocks-rules _ _ _ t in omega arith)
 
 keep-rules-requires : tie.Need-keep-rules-requires
-keep-rules-requires c κs = search needs
+keep-rules-requires c κs = (omega arith, omega arith)
 
 returns-2 : tie.Need-returns-2
 returns-2 c = c .keep-rules .ensures ∙ sym (blocks-last _ _ _ (omega arith))
