@@ -1,0 +1,27 @@
+-- `services::put_handle` meets its contract, by the law of a message.
+-- Assumes nothing.
+use mathlib.Core.Path.{refl}
+use native.Mathlib.Omega.{arith}
+use borrow.Author.Needs.{needs}
+use Rattle.wire.specs.BigEndian.{bytesOf}
+use Rattle.services.proofs.Parts.{message-stored}
+use Rattle.services.proofs.put_handle.Statement.{statement}
+use Rattle.services.proofs.put_handle.Tie as tie
+
+put-header-requires : tie.Need-put-header-requires
+put-header-requires c κs = search needs
+
+put64-requires : tie.Need-put64-requires
+put64-requires c κs = search needs
+
+same-length : tie.Need-same-length
+same-length c = search needs
+
+returns : tie.Need-returns
+unfolding bytesOf
+returns c =
+    let c₆ : _ = c .before .before .before .before .before .before in
+    message-stored _ 8 _ _ refl refl (omega arith) (rw (c .before .before .put64 .ensures, c₆ .put-header .ensures))
+
+pub put-handle-spec : {M : Type 1} → statement M
+put-handle-spec = tie.close (tie.spec put-header-requires put64-requires same-length returns)

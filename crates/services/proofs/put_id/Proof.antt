@@ -1,0 +1,68 @@
+-- `services::put_id` meets its contract. The loop's invariant: the bytes passed are stored. The measure is what is left of the id.
+-- Assumes nothing.
+use mathlib.Core.Path.{_≡_, refl, _∙_}
+use Prim.Native.Nat.{_≤_, _<_, _-_}
+use native.Mathlib.Omega.{arith}
+use lib.ListN.{length, take, length-set}
+use lib.Seq.{sets}
+use borrow.Author.Needs.{needs}
+use Rattle.services.proofs.Rule.{id-there}
+use Rattle.services.proofs.Parts.{one-byte-more}
+use Rattle.services.proofs.put_id.Statement.{statement}
+use Rattle.services.proofs.put_id.Tie as tie
+
+abbrev Inv-loop : tie.InvT-loop
+Inv-loop out₀ at id count i₀ out i = (i ≤ count) × (length out ≡ length out₀) × (out ≡ sets out₀ at (take i id))
+
+abbrev μ-loop : tie.MeasureT-loop
+μ-loop out₀ at id count i₀ out i = count - i
+
+loop-holds : tie.Need-loop-holds Inv-loop μ-loop
+loop-holds c = (search needs, refl, refl)
+
+array-read-out : tie.Need-array-read-out Inv-loop μ-loop
+array-read-out c = omega arith
+
+add-out : tie.Need-add-out Inv-loop μ-loop
+add-out c = omega arith
+
+slice-write-out : tie.Need-slice-write-out Inv-loop μ-loop
+slice-write-out c = omega arith
+
+add-i : tie.Need-add-i Inv-loop μ-loop
+add-i c = omega arith
+
+loop-less : tie.Need-loop-less Inv-loop μ-loop
+loop-less c = omega arith
+
+loop-again : tie.Need-loop-again Inv-loop μ-loop
+loop-again c =
+    let inv = c .before .loop .inv in
+    let start = c .before .before .before in
+    let there = id-there (start .pre .0) in
+    let below : c .before .loop .i < length (start .args .row .id) = omega arith in
+    (omega arith, rw length-set (inv .1), rw (inv .2) (one-byte-more _ (start .args .row .id) _ _ below))
+
+same-length : tie.Need-same-length Inv-loop μ-loop
+same-length c = c .before .loop .inv .1
+
+returns : tie.Need-returns Inv-loop μ-loop
+returns c =
+    let past : c .before .loop .i ≡ c .before .before .before .args .row .length = omega arith in
+    c .before .loop .inv .2 ∙ rw past
+
+pub put-id-spec : {M : Type 1} → statement M
+put-id-spec =
+    tie.close
+    (tie.spec
+    Inv-loop
+    μ-loop
+    loop-holds
+    array-read-out
+    add-out
+    slice-write-out
+    add-i
+    loop-less
+    loop-again
+    same-length
+    returns)
