@@ -1,0 +1,3 @@
+-- What is proved of well-formed messages beside the functions.
+-- Assumes nothing.
+pub mod Rules

@@ -1,0 +1,65 @@
+-- `messages::no_zero` meets its contract. The loop's invariant: no byte passed is zero. The measure is what is left.
+-- Assumes nothing.
+use mathlib.Core.Path.{_≡_, sym, ap}
+use mathlib.Core.Bool.{true, not}
+use Prim.Native.Nat.{ℕ, _+_, _-_, _≤_, _<_}
+use native.Mathlib.Omega.{arith}
+use borrow.Author.Count.{below-none, below-more}
+use Rattle.model.proofs.Choice.{clash, every-at, every-make}
+use Rattle.messages.specs.Id.{idByte}
+use Rattle.messages.proofs.Rules.{refute, zero-byte, other-byte}
+use Rattle.messages.proofs.no_zero.Statement.{statement}
+use Rattle.messages.proofs.no_zero.Tie as tie
+
+abbrev Inv-loop : tie.InvT-loop
+Inv-loop m count i₀ i = (i ≤ count) × ((k : ℕ) → k < i → idByte m k ≡ true)
+
+abbrev μ-loop : tie.MeasureT-loop
+μ-loop m count i₀ i = count - i
+
+loop-holds : tie.Need-loop-holds Inv-loop μ-loop
+loop-holds c = (omega arith, below-none _)
+
+add-if1 : tie.Need-add-if1 Inv-loop μ-loop
+add-if1 c = omega arith
+
+shared-slice-read-if1 : tie.Need-shared-slice-read-if1 Inv-loop μ-loop
+shared-slice-read-if1 c = omega arith
+
+returns : tie.Need-returns Inv-loop μ-loop
+returns c =
+    let start = c .before .before .before .before in
+    let i = c .before .before .before .loop .i in
+    let zero = zero-byte (start .args .m .now) (20 + i) (c .before .shared-slice-known .given (20 + i) .fits) (c .if1 .taken) in
+    refute _ (λ t. clash _ (ap not zero) (every-at (λ k. idByte (start .args .m .now) k) (start .args .count) i t (omega arith)))
+
+add-i : tie.Need-add-i Inv-loop μ-loop
+add-i c = omega arith
+
+loop-less : tie.Need-loop-less Inv-loop μ-loop
+loop-less c = omega arith
+
+loop-again : tie.Need-loop-again Inv-loop μ-loop
+loop-again c =
+    let start = c .before .before .before .before in
+    let i = c .before .before .before .loop .i in
+    let other = other-byte (start .args .m .now) (20 + i) (c .before .shared-slice-known .given (20 + i) .fits) (c .if1 .left) in
+    (omega arith, below-more _ _ (c .before .before .before .loop .inv .1) (ap not other))
+
+returns-2 : tie.Need-returns-2 Inv-loop μ-loop
+returns-2 c = sym (every-make (λ k. idByte (c .before .before .args .m .now) k) _ (λ k h. c .before .loop .inv .1 k (omega arith)))
+
+pub no-zero-spec : {M : Type 1} → statement M
+no-zero-spec =
+    tie.close
+    (tie.spec
+    Inv-loop
+    μ-loop
+    loop-holds
+    add-if1
+    shared-slice-read-if1
+    returns
+    add-i
+    loop-less
+    loop-again
+    returns-2)
