@@ -5,6 +5,7 @@ pub mod State
 pub mod Refusals
 pub mod Journal
 pub mod Messages
+pub mod Made
 pub mod Memory
 pub mod Work
 pub mod Calls

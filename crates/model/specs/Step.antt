@@ -8,7 +8,7 @@ use Rattle.model.specs.declared.Answer.{Answer}
 use Rattle.model.specs.declared.Worked.{Worked}
 use Rattle.model.specs.declared.Drained.{Drained}
 use Rattle.model.specs.declared.Started.{Started}
-use Rattle.model.specs.Calls.{Call, receive, offer, withdraw, close, work, drain, Outcome, outcome, started}
+use Rattle.model.specs.Calls.{Call, receive, offer, withdraw, close, work, drain, Outcome, outcome, started, shown}
 use Rattle.model.specs.Demand3.{Run, after, Demand3}
 
 -- what a function returned and left, as an outcome
@@ -63,6 +63,10 @@ WorkPost s j budget out r s′ j′ out′ = worked r s′ j′ out′ ≡ outco
 
 abbrev pub DrainPost : List ℕ → List ℕ → List ℕ → Drained → List ℕ → List ℕ → List ℕ → Type 0
 DrainPost s j run r s′ j′ run′ = emptied r s′ j′ run′ ≡ outcome s j (drain run)
+
+-- show is no call of the list: it is lent the state and a message, and gives a part of the message
+abbrev pub ShowPost : List ℕ → ℕ → List ℕ → List ℕ → Type 0
+ShowPost s c m part = part ≡ shown s c m
 
 -- one call: its contract held between what it was given and what it left
 pub data Step (u : Run) : Call → Run → Type 0 where
