@@ -1,0 +1,50 @@
+-- What each public function's contract tells a caller is a step of demand 3's list, and nothing is asked of the caller: where a contract in
+-- src/ is weakened, this file is refused.
+-- Assumes nothing.
+use contract.Lifetimes.{Lfts}
+use borrow.Fn.Kinds.{Dens, endedOf, resT}
+use denote.Triple.Clauses.{AtExit}
+use denote.Ref.{now}
+use Rattle.model.specs.declared.Answer.{Answer}
+use Rattle.model.specs.declared.Started.{Started}
+use Rattle.model.specs.Step.{SetupPost, OfferPost, WithdrawPost, ClosePost, ShowPost}
+use Rattle.agent.proofs.setup.Kinds as setup-kinds
+use Rattle.agent.proofs.setup.Reads as setup-reads
+use Rattle.agent.proofs.offer.Kinds as offer-kinds
+use Rattle.agent.proofs.offer.Reads as offer-reads
+use Rattle.agent.proofs.withdraw.Kinds as withdraw-kinds
+use Rattle.agent.proofs.withdraw.Reads as withdraw-reads
+use Rattle.agent.proofs.close.Kinds as close-kinds
+use Rattle.agent.proofs.close.Reads as close-reads
+use Rattle.agent.proofs.show.Kinds as show-kinds
+use Rattle.agent.proofs.show.Reads as show-reads
+
+pub setup-told : (κs : Lfts 1) (a : Dens κs setup-kinds.ps) (r : Started) (e : AtExit (endedOf 1 setup-kinds.ps setup-kinds.r) κs) → setup-reads.Learnt κs a r e → SetupPost (now (a .0)) r
+setup-told κs a r e p = p
+
+pub setup-asks : (κs : Lfts 1) (a : Dens κs setup-kinds.ps) → setup-reads.Asked κs a
+setup-asks κs a = tt
+
+pub offer-told : (κs : Lfts 3) (a : Dens κs offer-kinds.ps) (r : Answer) (e : AtExit (endedOf 3 offer-kinds.ps offer-kinds.r) κs) → offer-reads.Learnt κs a r e → OfferPost (now (a .0)) (now (a .1 .1 .1 .0)) (a .1 .0) (a .1 .1 .0) (now (a .1 .1 .1 .1 .0)) r (now (e .0)) (now (e .1 .1 .1 .0)) (now (e .1 .1 .1 .1 .0))
+offer-told κs a r e p = p
+
+pub offer-asks : (κs : Lfts 3) (a : Dens κs offer-kinds.ps) → offer-reads.Asked κs a
+offer-asks κs a = tt
+
+pub withdraw-told : (κs : Lfts 3) (a : Dens κs withdraw-kinds.ps) (r : Answer) (e : AtExit (endedOf 3 withdraw-kinds.ps withdraw-kinds.r) κs) → withdraw-reads.Learnt κs a r e → WithdrawPost (now (a .0)) (now (a .1 .1 .1 .0)) (a .1 .0) (a .1 .1 .0) (now (a .1 .1 .1 .1 .0)) r (now (e .0)) (now (e .1 .1 .1 .0)) (now (e .1 .1 .1 .1 .0))
+withdraw-told κs a r e p = p
+
+pub withdraw-asks : (κs : Lfts 3) (a : Dens κs withdraw-kinds.ps) → withdraw-reads.Asked κs a
+withdraw-asks κs a = tt
+
+pub close-told : (κs : Lfts 3) (a : Dens κs close-kinds.ps) (r : Answer) (e : AtExit (endedOf 3 close-kinds.ps close-kinds.r) κs) → close-reads.Learnt κs a r e → ClosePost (now (a .0)) (now (a .1 .1 .0)) (a .1 .0) (now (a .1 .1 .1 .0)) r (now (e .0)) (now (e .1 .1 .0)) (now (e .1 .1 .1 .0))
+close-told κs a r e p = p
+
+pub close-asks : (κs : Lfts 3) (a : Dens κs close-kinds.ps) → close-reads.Asked κs a
+close-asks κs a = tt
+
+pub show-asks : (κs : Lfts 2) (a : Dens κs show-kinds.ps) → show-reads.Asked κs a
+show-asks κs a = tt
+
+pub show-told : (κs : Lfts 2) (a : Dens κs show-kinds.ps) (r : resT show-kinds.r κs .Denot) (e : AtExit (endedOf 2 show-kinds.ps show-kinds.r) κs) → show-reads.Learnt κs a r e → ShowPost (now (a .0)) (a .1 .0) (now (a .1 .1 .0)) (now r)
+show-told κs a r e p = p
