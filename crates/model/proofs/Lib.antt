@@ -18,4 +18,5 @@ pub mod Demand3
 pub mod Kept
 pub mod Linked
 pub mod LateReply
+pub mod Pages
 pub mod Day

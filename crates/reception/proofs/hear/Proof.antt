@@ -1,0 +1,162 @@
+use mathlib.Core.Path.{_∙_, sym}
+use Rattle.model.specs.Calls.{heard}
+use Rattle.messages.proofs.Rules.{data-there}
+use Rattle.reception.proofs.Laws.{silent}
+use borrow.Author.Needs.{needs}
+use Rattle.reception.proofs.hear.Statement.{statement}
+use Rattle.reception.proofs.hear.Tie as tie
+
+enum-known-decoded : tie.Need-enum-known-decoded
+enum-known-decoded c = search needs
+
+initiate-requires : tie.Need-initiate-requires
+initiate-requires c κs = search needs
+
+enum-known-decoded-2 : tie.Need-enum-known-decoded-2
+enum-known-decoded-2 c = search needs
+
+refuse-registration-requires : tie.Need-refuse-registration-requires
+refuse-registration-requires c κs = search needs
+
+enum-known-decoded-3 : tie.Need-enum-known-decoded-3
+enum-known-decoded-3 c = search needs
+
+acknowledge-requires : tie.Need-acknowledge-requires
+acknowledge-requires c κs = search needs
+
+enum-known-decoded-4 : tie.Need-enum-known-decoded-4
+enum-known-decoded-4 c = search needs
+
+end-offer-requires : tie.Need-end-offer-requires
+end-offer-requires c κs = search needs
+
+enum-known-decoded-5 : tie.Need-enum-known-decoded-5
+enum-known-decoded-5 c = search needs
+
+unregister-requires : tie.Need-unregister-requires
+unregister-requires c κs = search needs
+
+enum-told : tie.Need-enum-told
+enum-told c = search needs
+
+note-requires : tie.Need-note-requires
+note-requires c κs = search needs
+
+enum-told-2 : tie.Need-enum-told-2
+enum-told-2 c = search needs
+
+note-requires-2 : tie.Need-note-requires-2
+note-requires-2 c κs = search needs
+
+enum-known-decoded-6 : tie.Need-enum-known-decoded-6
+enum-known-decoded-6 c = search needs
+
+payload-requires : tie.Need-payload-requires
+payload-requires c κs = data-there _ _ (sym (c .before .before .before .before .before .before .pre .3) ∙ c .before .before .decoded6 .given .1)
+
+take-data-requires : tie.Need-take-data-requires
+take-data-requires c κs = search needs
+
+enum-told-3 : tie.Need-enum-told-3
+enum-told-3 c = search needs
+
+note-requires-3 : tie.Need-note-requires-3
+note-requires-3 c κs = search needs
+
+enum-told-4 : tie.Need-enum-told-4
+enum-told-4 c = search needs
+
+close-requires : tie.Need-close-requires
+close-requires c κs = search needs
+
+same-length : tie.Need-same-length
+same-length c = search needs
+
+returns : tie.Need-returns
+unfolding heard
+returns c = rw (c .before .before .before .before .before .before .decoded .given .1) (c .before .before .initiate .ensures)
+
+same-length-2 : tie.Need-same-length-2
+same-length-2 c = search needs
+
+returns-2 : tie.Need-returns-2
+unfolding heard
+returns-2 c = rw (c .before .before .before .before .before .before .decoded2 .given .1) (c .before .before .refuse-registration .ensures)
+
+returns-3 : tie.Need-returns-3
+unfolding heard
+returns-3 c = rw (c .before .before .before .decoded3 .given .1) (silent _ (c .acknowledge .ensures))
+
+returns-4 : tie.Need-returns-4
+unfolding heard
+returns-4 c = rw (c .before .before .before .decoded4 .given .1) (silent _ (c .end-offer .ensures))
+
+same-length-3 : tie.Need-same-length-3
+same-length-3 c = search needs
+
+returns-5 : tie.Need-returns-5
+unfolding heard
+returns-5 c = rw (c .before .before .before .before .before .before .decoded5 .given .1) (c .before .before .unregister .ensures)
+
+returns-6 : tie.Need-returns-6
+unfolding heard
+returns-6 c = rw (c .before .before .enum-told .given .1) (silent _ (c .note .ensures))
+
+returns-7 : tie.Need-returns-7
+unfolding heard
+returns-7 c = rw (c .before .before .enum-told2 .given .1) (silent _ (c .note2 .ensures))
+
+same-length-4 : tie.Need-same-length-4
+same-length-4 c = search needs
+
+returns-8 : tie.Need-returns-8
+unfolding heard
+returns-8 c = rw (c .before .before .before .before .before .before .before .decoded6 .given .1, ← c .before .before .before .before .payload .ensures) (c .before .before .take-data .ensures)
+
+returns-9 : tie.Need-returns-9
+unfolding heard
+returns-9 c = rw (c .before .before .enum-told3 .given .1) (silent _ (c .note3 .ensures))
+
+returns-10 : tie.Need-returns-10
+unfolding heard
+returns-10 c = rw (c .before .before .enum-told4 .given .1) (silent _ (c .close .ensures))
+
+pub hear-spec : {M : Type 1} → statement M
+hear-spec =
+    tie.close
+    (tie.spec
+    enum-known-decoded
+    initiate-requires
+    enum-known-decoded-2
+    refuse-registration-requires
+    enum-known-decoded-3
+    acknowledge-requires
+    enum-known-decoded-4
+    end-offer-requires
+    enum-known-decoded-5
+    unregister-requires
+    enum-told
+    note-requires
+    enum-told-2
+    note-requires-2
+    enum-known-decoded-6
+    payload-requires
+    take-data-requires
+    enum-told-3
+    note-requires-3
+    enum-told-4
+    close-requires
+    same-length
+    returns
+    same-length-2
+    returns-2
+    returns-3
+    returns-4
+    same-length-3
+    returns-5
+    returns-6
+    returns-7
+    same-length-4
+    returns-8
+    returns-9
+    returns-10)
