@@ -7,7 +7,18 @@ use denote.Triple.Clauses.{AtExit}
 use denote.Ref.{now}
 use Rattle.model.specs.declared.Answer.{Answer}
 use Rattle.model.specs.declared.Started.{Started}
-use Rattle.model.specs.Step.{SetupPost, OfferPost, WithdrawPost, ClosePost, ShowPost}
+use Rattle.model.specs.declared.Worked.{Worked}
+use Rattle.model.specs.declared.Drained.{Drained}
+use Rattle.model.specs.Step.{
+  SetupPost,
+  ReceivePost,
+  OfferPost,
+  WithdrawPost,
+  ClosePost,
+  WorkPost,
+  DrainPost,
+  ShowPost,
+}
 use Rattle.agent.proofs.setup.Kinds as setup-kinds
 use Rattle.agent.proofs.setup.Reads as setup-reads
 use Rattle.agent.proofs.offer.Kinds as offer-kinds
@@ -16,6 +27,12 @@ use Rattle.agent.proofs.withdraw.Kinds as withdraw-kinds
 use Rattle.agent.proofs.withdraw.Reads as withdraw-reads
 use Rattle.agent.proofs.close.Kinds as close-kinds
 use Rattle.agent.proofs.close.Reads as close-reads
+use Rattle.agent.proofs.receive.Kinds as receive-kinds
+use Rattle.agent.proofs.receive.Reads as receive-reads
+use Rattle.agent.proofs.work.Kinds as work-kinds
+use Rattle.agent.proofs.work.Reads as work-reads
+use Rattle.agent.proofs.drain.Kinds as drain-kinds
+use Rattle.agent.proofs.drain.Reads as drain-reads
 use Rattle.agent.proofs.show.Kinds as show-kinds
 use Rattle.agent.proofs.show.Reads as show-reads
 
@@ -48,3 +65,22 @@ show-asks κs a = tt
 
 pub show-told : (κs : Lfts 2) (a : Dens κs show-kinds.ps) (r : resT show-kinds.r κs .Denot) (e : AtExit (endedOf 2 show-kinds.ps show-kinds.r) κs) → show-reads.Learnt κs a r e → ShowPost (now (a .0)) (a .1 .0) (now (a .1 .1 .0)) (now r)
 show-told κs a r e p = p
+
+pub receive-told : (κs : Lfts 4) (a : Dens κs receive-kinds.ps) (r : Answer) (e : AtExit (endedOf 4 receive-kinds.ps receive-kinds.r) κs) → receive-reads.Learnt κs a r e → ReceivePost (now (a .0)) (now (a .1 .1 .1 .0)) (a .1 .0) (now (a .1 .1 .0)) (now (a .1 .1 .1 .1 .0)) r (now (e .0)) (now (e .1 .1 .1 .0)) (now (e .1 .1 .1 .1 .0))
+receive-told κs a r e p = p
+
+pub receive-asks : (κs : Lfts 4) (a : Dens κs receive-kinds.ps) → receive-reads.Asked κs a
+receive-asks κs a = tt
+
+pub work-told : (κs : Lfts 3) (a : Dens κs work-kinds.ps) (r : Worked) (e : AtExit (endedOf 3 work-kinds.ps work-kinds.r) κs) → work-reads.Learnt κs a r e → WorkPost (now (a .0)) (now (a .1 .1 .0)) (a .1 .0) (now (a .1 .1 .1 .0)) r (now (e .0)) (now (e .1 .1 .0)) (now (e .1 .1 .1 .0))
+work-told κs a r e p = p
+
+pub work-asks : (κs : Lfts 3) (a : Dens κs work-kinds.ps) → work-reads.Asked κs a
+work-asks κs a = tt
+
+-- drain is lent its journal to be read: the journal after it is the journal before it
+pub drain-told : (κs : Lfts 3) (a : Dens κs drain-kinds.ps) (r : Drained) (e : AtExit (endedOf 3 drain-kinds.ps drain-kinds.r) κs) → drain-reads.Learnt κs a r e → DrainPost (now (a .0)) (now (a .1 .0)) (now (a .1 .1 .0)) r (now (e .0)) (now (a .1 .0)) (now (e .1 .1 .0))
+drain-told κs a r e p = p
+
+pub drain-asks : (κs : Lfts 3) (a : Dens κs drain-kinds.ps) → drain-reads.Asked κs a
+drain-asks κs a = tt

@@ -1,2 +1,3 @@
 pub mod Laws
 pub mod Contracts
+pub mod Demand3
