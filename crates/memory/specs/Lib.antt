@@ -1,0 +1,3 @@
+-- The specifications of this crate.
+-- Assumes nothing.
+pub mod Progress
