@@ -4,7 +4,7 @@ use Prim.Native.Nat.{ℕ, _+_, _≤_}
 use mathlib.Core.Path.{_≡_}
 use mathlib.Core.Bool.{Bool}
 use mathlib.Core.List.{List, [], _∷_, _++_}
-use lib.ListN.{length, take}
+use lib.ListN.{take}
 use lib.Dec.{eqb}
 use Rattle.model.specs.Layout.{blocksOf}
 use Rattle.model.specs.Memory.{Progress, configureOne, configuredBy}

@@ -43,6 +43,25 @@ ghost use Rattle.wire.specs.BigEndian.{written};
 ghost use Rattle.model.specs.Made.{Makes};
 ghost use Rattle.memory.specs.Progress.{Steps, Passes};
 
+// Kinds of events: "10 memory answered with nothing changed", "11 configured", "12 begun", "13 marked cancelled".
+const ANSWERED: u64 = 10;
+
+const CONFIGURED: u64 = 11;
+
+const BEGUN: u64 = 12;
+
+const CANCELLED: u64 = 13;
+
+// The codes of an answer, 0 if neither.
+const CODE_ERROR: u64 = 1;
+
+const CODE_BLOCKED: u64 = 2;
+
+// The bytes of a record of QUERY, and of STATUS.
+const QUERY_BYTES: usize = 40;
+
+const STATUS_BYTES: usize = 16;
+
 // Types of replies.
 const DR_MEM_OK: u32 = 0x6f;
 
@@ -89,7 +108,7 @@ fn error(channel: u64, handle: u64, request: u64, out: &mut [u8]) -> Made
     ensures { λ r. ⌜ ((s : List ℕ) → Makes (answeringError s channel handle request) (now (out .entry)) r s (now (out .exit))) ⌝ }
 {
     put_bare(out, handle, DR_MEM_ERROR, request);
-    made(32, 10, channel, 1, 0, request)
+    made(records::HEADERS, ANSWERED, channel, CODE_ERROR, 0, request)
 }
 
 // The addresses of the `n` records of a request, and 0 after them.
@@ -143,7 +162,7 @@ fn begin(state: &mut State, channel: u64, handle: u64, request: u64, b: &[u8], n
             result: [0u64; 16],
         },
     );
-    made(0, 12, channel, 0, count, request)
+    made(0, BEGUN, channel, 0, count, request)
 }
 
 // "An outstanding removal is marked and its collected pages go back to 0"
@@ -154,6 +173,7 @@ fn mark(state: &mut State, m: Removal)
     let address = m.address;
     let size = m.size;
     let result = m.result;
+    let collected: u64 = 0;
     state::store_removal(
         state,
         Removal {
@@ -163,7 +183,7 @@ fn mark(state: &mut State, m: Removal)
             request: m.request,
             count: m.count,
             position: m.position,
-            collected: 0,
+            collected: collected,
             address: address,
             size: size,
             result: result,
@@ -306,8 +326,8 @@ fn put_query_records(state: &State, b: &[u8], n: usize, out: &mut [u8])
     while i < n {
         let addr = requests::address(b, i);
         let size = requests::size(b, i);
-        let at = 32 + i * 40;
-        let end = at + 40;
+        let at = records::HEADERS + i * QUERY_BYTES;
+        let end = at + QUERY_BYTES;
         put_query_record(state, &mut out[at..end], addr, size);
         i += 1;
     }
@@ -335,12 +355,19 @@ fn report(state: &State, channel: u64, handle: u64, request: u64, out: &mut [u8]
 {
     if !state::is_outstanding(state) {
         put_bare(out, handle, DR_MEM_OK, request);
-        return made(32, 10, channel, 0, 0, request);
+        return made(records::HEADERS, ANSWERED, channel, 0, 0, request);
     }
     let m = state::load_removal(state);
-    records::put_header(out, handle, DR_MEM_OK, 1, request, 16);
+    records::put_header(out, handle, DR_MEM_OK, 1, request, STATUS_BYTES);
     put_status(out, m);
-    made(48, 10, channel, 0, 0, request)
+    made(
+        records::HEADERS + STATUS_BYTES,
+        ANSWERED,
+        channel,
+        0,
+        0,
+        request,
+    )
 }
 
 // "CANCEL: reply argument 0. .. a second CANCEL changes nothing."
@@ -350,14 +377,15 @@ fn cancel(state: &mut State, channel: u64, handle: u64, request: u64, out: &mut 
 {
     put_bare(out, handle, DR_MEM_OK, request);
     if !state::is_outstanding(state) {
-        return made(32, 10, channel, 0, 0, request);
+        return made(records::HEADERS, ANSWERED, channel, 0, 0, request);
     }
     let m = state::load_removal(state);
-    if m.cancelled {
-        return made(32, 10, channel, 0, 0, request);
+    let again = m.cancelled;
+    if again {
+        return made(records::HEADERS, ANSWERED, channel, 0, 0, request);
     }
     mark(state, m);
-    made(32, 13, channel, 0, 0, request)
+    made(records::HEADERS, CANCELLED, channel, 0, 0, request)
 }
 
 // QUERY changes nothing.
@@ -373,9 +401,16 @@ fn query(
     requires { ⌜ (sound (now state) ≡ true) × (n ≤ 16) × (length (now b) ≡ 16 + n * 16) × (672 ≤ length (now out)) ⌝ }
     ensures { λ r. ⌜ Makes (querying (now (state .entry)) channel handle request (now (b .entry)) n) (now (out .entry)) r (now (state .entry)) (now (out .exit)) ⌝ }
 {
-    records::put_header(out, handle, DR_MEM_OK, n as u32, request, n * 40);
+    records::put_header(out, handle, DR_MEM_OK, n as u32, request, n * QUERY_BYTES);
     put_query_records(state, b, n, out);
-    made(32 + n * 40, 10, channel, 0, 0, request)
+    made(
+        records::HEADERS + n * QUERY_BYTES,
+        ANSWERED,
+        channel,
+        0,
+        0,
+        request,
+    )
 }
 
 // The reply with a result for each record of the request, and its length.
@@ -393,9 +428,16 @@ fn put_results(
 {
     let address = addresses(b, n);
     let size = sizes(b, n);
-    records::put_header(out, handle, DR_MEM_OK, n as u32, request, n * 28);
+    records::put_header(
+        out,
+        handle,
+        DR_MEM_OK,
+        n as u32,
+        request,
+        n * records::RESULT_BYTES,
+    );
     records::put_result_records(state, out, address, size, result, n);
-    32 + n * 28
+    records::HEADERS + n * records::RESULT_BYTES
 }
 
 // "CONFIGURE or UNCONFIGURE while a removal is outstanding: every record BLOCKED (2)."
@@ -412,7 +454,7 @@ fn block(
     ensures { λ r. ⌜ Makes (blocked (now (state .entry)) channel handle request (now (b .entry)) n) (now (out .entry)) r (now (state .entry)) (now (out .exit)) ⌝ }
 {
     let length = put_results(state, handle, request, b, n, [DR_MEM_RES_BLOCKED; 16], out);
-    made(length, 10, channel, 2, 0, request)
+    made(length, ANSWERED, channel, CODE_BLOCKED, 0, request)
 }
 
 // CONFIGURE while none is: kind 11 where a block was configured, else kind 10.
@@ -432,11 +474,12 @@ fn configure(
     let result = passed.result;
     let length = put_results(state, handle, request, b, n, result, out);
     if passed.mask == 0 {
-        return made(length, 10, channel, 0, 0, request);
+        return made(length, ANSWERED, channel, 0, 0, request);
     }
-    made(length, 11, channel, 0, 0, passed.mask)
+    made(length, CONFIGURED, channel, 0, 0, passed.mask)
 }
 
+// A CONFIGURE of right form.
 fn hear_configure(
     state: &mut State,
     channel: u64,
@@ -455,6 +498,7 @@ fn hear_configure(
     configure(state, channel, handle, request, b, n, out)
 }
 
+// An UNCONFIGURE of right form.
 fn hear_unconfigure(
     state: &mut State,
     channel: u64,
@@ -467,7 +511,8 @@ fn hear_unconfigure(
     requires { ⌜ (blocksOf (now state) ≤ 16) × (n ≤ 16) × (length (now b) ≡ 16 + n * 16) × (672 ≤ length (now out)) ⌝ }
     ensures { λ r. ⌜ Makes (requested (now (state .entry)) channel handle request (now (b .entry)) (Unconfigure n)) (now (out .entry)) r (now (state .exit)) (now (out .exit)) ⌝ }
 {
-    if state::is_outstanding(state) {
+    let outstanding = state::is_outstanding(state);
+    if outstanding {
         return block(state, channel, handle, request, b, n, out);
     }
     begin(state, channel, handle, request, b, n)

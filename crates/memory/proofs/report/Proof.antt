@@ -31,6 +31,9 @@ put-header-requires c κs = search needs
 put-status-requires : tie.Need-put-status-requires
 put-status-requires c κs = let k = removal-fits _ _ (c .before .before .before .before .before .load-removal .ensures) (c .before .before .before .before .before .before .before .before .before .pre .0) (yes _ (c .before .before .before .before .before .before .before .is-outstanding .ensures) (c .before .before .before .before .before .before .if1 .left)) in (k .0, k .1, omega arith)
 
+add-made : tie.Need-add-made
+add-made c = search needs
+
 made-requires-2 : tie.Need-made-requires-2
 made-requires-2 c κs = search needs
 
@@ -52,6 +55,7 @@ report-spec =
     load-removal-requires
     put-header-requires
     put-status-requires
+    add-made
     made-requires-2
     same-length-2
     returns-2)
