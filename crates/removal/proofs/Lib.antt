@@ -1,0 +1,3 @@
+-- Laws of a removal's work step.
+-- Assumes nothing.
+pub mod Laws

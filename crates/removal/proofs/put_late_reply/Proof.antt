@@ -1,0 +1,44 @@
+-- `removal::put_late_reply` meets its contract: the headers and the records are the reply.
+-- Assumes nothing.
+use native.Mathlib.Omega.{arith}
+use Rattle.removal.proofs.Laws.{late-length, late-stored}
+use borrow.Author.Needs.{needs}
+use Rattle.removal.proofs.put_late_reply.Statement.{statement}
+use Rattle.removal.proofs.put_late_reply.Tie as tie
+
+results-requires : tie.Need-results-requires
+results-requires c κs = search needs
+
+mul-rest : tie.Need-mul-rest
+mul-rest c = search needs
+
+cast-put-header : tie.Need-cast-put-header
+cast-put-header c = search needs
+
+put-header-requires : tie.Need-put-header-requires
+put-header-requires c κs = search needs
+
+put-result-records-requires : tie.Need-put-result-records-requires
+put-result-records-requires c κs = search needs
+
+add-result : tie.Need-add-result
+add-result c = search needs
+
+same-length : tie.Need-same-length
+same-length c = search needs
+
+returns : tie.Need-returns
+returns c = (late-length _ _ (c .before .before .before .before .before .before .before .before .before .before .before .before .pre .0 .records), late-stored _ _ (c .before .before .before .before .before .before .before .before .before .before .before .before .pre .0 .records) _ _ (c .before .before .before .before .before .before .before .before .results .ensures) (omega arith) (c .before .before .before .before .before .before .put-header .ensures) (c .before .before .put-result-records .ensures))
+
+pub put-late-reply-spec : {M : Type 1} → statement M
+put-late-reply-spec =
+    tie.close
+    (tie.spec
+    results-requires
+    mul-rest
+    cast-put-header
+    put-header-requires
+    put-result-records-requires
+    add-result
+    same-length
+    returns)
