@@ -1,6 +1,7 @@
 -- `removal::collect` meets its contract: the cases of the definition.
 -- Assumes nothing.
-use mathlib.Core.Path.{refl, sym, _∙_}
+use native.Mathlib.Omega.{arith}
+use mathlib.Core.Path.{refl, _∙_}
 use Rattle.removal.proofs.Laws.{collects-last, collects-some}
 use borrow.Author.Needs.{needs}
 use Rattle.removal.proofs.collect.Statement.{statement}
@@ -19,7 +20,9 @@ settle-requires : tie.Need-settle-requires
 settle-requires c κs = search needs
 
 returns : tie.Need-returns
-returns c = collects-last _ _ _ (c .before .before .before .before .before .before .before .before .pre .0) (c .before .before .before .before .if1 .taken ∙ c .before .before .before .before .before .before .pages-of .ensures) (c .before .before .set-configured .ensures) (c .settle .ensures)
+returns c =
+    let c₈ : _ = c .before .before .before .before .before .before .before .before in
+    collects-last _ _ _ (c₈ .pre .0) (omega arith) (c .before .before .set-configured .ensures) (c .settle .ensures)
 
 collecting-requires : tie.Need-collecting-requires
 collecting-requires c κs = search needs
@@ -29,7 +32,7 @@ store-removal-requires c κs = search needs
 
 returns-2 : tie.Need-returns-2
 returns-2 c =
-    collects-some _ _ _ (c .before .before .before .before .before .before .before .pre .0) (λ e. c .before .before .before .if1 .left (e ∙ sym (c .before .before .before .before .before .pages-of .ensures)))
+    collects-some _ _ _ (c .before .before .before .before .before .before .before .pre .0) (λ e. omega arith)
     (record { size = refl; notes = refl; state = c .store-removal .ensures ∙ rw (c .before .collecting .ensures); silent = refl })
 
 pub collect-spec : {M : Type 1} → statement M

@@ -20,10 +20,14 @@ blocks-of-requires : tie.Need-blocks-of-requires
 blocks-of-requires c κs = search needs
 
 returns-3 : tie.Need-returns-3
-returns-3 c = sym (code-known _ _ (c .before .before .before .before .before .if1 .left) (c .before .before .before .if2 .left) _ (c .before .before .block-now .ensures) (omega arith))
+returns-3 c =
+    let c₅ : _ = c .before .before .before .before .before in
+    sym (code-known _ _ (c₅ .if1 .left) (c .before .before .before .if2 .left) _ (c .before .before .block-now .ensures) (omega arith))
 
 returns-4 : tie.Need-returns-4
-returns-4 c = sym (code-unknown _ _ (c .before .before .before .before .before .if1 .left) (c .before .before .before .if2 .left) _ (c .before .before .block-now .ensures) (omega arith))
+returns-4 c =
+    let c₅ : _ = c .before .before .before .before .before in
+    sym (code-unknown _ _ (c₅ .if1 .left) (c .before .before .before .if2 .left) _ (c .before .before .block-now .ensures) (omega arith))
 
 pub end-code-spec : {M : Type 1} → statement M
 end-code-spec =

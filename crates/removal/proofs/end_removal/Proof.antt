@@ -25,7 +25,12 @@ same-length : tie.Need-same-length
 same-length c = search needs
 
 returns : tie.Need-returns
-returns c = ends-replied _ _ _ (sym (c .before .before .before .before .before .before .before .before .before .still-registered .ensures) ∙ c .before .before .before .before .before .before .before .before .if1 .taken) (c .before .before .before .before .before .before .before .before .before .before .before .end-code .ensures) (c .before .before .before .before .before .put-late-reply .ensures .0) (c .ended .ensures) (c .before .clear-removal .ensures) (c .before .before .before .before .before .put-late-reply .ensures .1)
+returns c =
+    let c₅ : _ = c .before .before .before .before .before in
+    let c₈ : _ = c₅ .before .before .before in
+    let c₉ : _ = c₈ .before in
+    let c₁₁ : _ = c₉ .before .before in
+    ends-replied _ _ _ (sym (c₉ .still-registered .ensures) ∙ c₈ .if1 .taken) (c₁₁ .end-code .ensures) (c₅ .put-late-reply .ensures .0) (c .ended .ensures) (c .before .clear-removal .ensures) (c₅ .put-late-reply .ensures .1)
 
 clear-removal-requires-2 : tie.Need-clear-removal-requires-2
 clear-removal-requires-2 c κs = search needs
@@ -34,7 +39,10 @@ ended-requires-2 : tie.Need-ended-requires-2
 ended-requires-2 c κs = search needs
 
 returns-2 : tie.Need-returns-2
-returns-2 c = ends-silent _ _ _ (sym (c .before .before .before .before .still-registered .ensures) ∙ c .before .before .before .if1 .left) (c .before .before .before .before .before .before .end-code .ensures) refl (c .ended2 .ensures) (c .before .clear-removal2 .ensures) refl
+returns-2 c =
+    let c₄ : _ = c .before .before .before .before in
+    let c₆ : _ = c₄ .before .before in
+    ends-silent _ _ _ (sym (c₄ .still-registered .ensures) ∙ c .before .before .before .if1 .left) (c₆ .end-code .ensures) refl (c .ended2 .ensures) (c .before .clear-removal2 .ensures) refl
 
 pub end-removal-spec : {M : Type 1} → statement M
 end-removal-spec =

@@ -8,7 +8,7 @@ use Rattle.removal.proofs.ends.Statement.{statement}
 use Rattle.removal.proofs.ends.Tie as tie
 
 returns : tie.Need-returns
-returns c = sym (ends-cancelled _ _ (c .if1 .taken))
+returns c = sym (ends-cancelled (c .before .args .state .now) (c .before .args .m) (c .if1 .taken))
 
 returns-2 : tie.Need-returns-2
 returns-2 c = sym (ends-settled _ _ (c .before .before .if1 .left) (c .if2 .taken))
@@ -20,13 +20,18 @@ blocks-of-requires : tie.Need-blocks-of-requires
 blocks-of-requires c κs = search needs
 
 returns-3 : tie.Need-returns-3
-returns-3 c = sym (ends-unknown _ _ (c .before .before .before .before .before .if1 .left) (c .before .before .before .if2 .left) _ (c .before .before .block-now .ensures) (omega arith))
+returns-3 c =
+    let c₅ : _ = c .before .before .before .before .before in
+    sym (ends-unknown _ _ (c₅ .if1 .left) (c .before .before .before .if2 .left) _ (c .before .before .block-now .ensures) (omega arith))
 
 permanent-of-requires : tie.Need-permanent-of-requires
 permanent-of-requires c κs = omega arith
 
 returns-4 : tie.Need-returns-4
-returns-4 c = rw (c .permanent-of .ensures) (sym (ends-known _ _ (c .before .before .before .before .before .before .if1 .left) (c .before .before .before .before .if2 .left) _ (c .before .before .before .block-now .ensures) (omega arith)))
+returns-4 c =
+    let c₄ : _ = c .before .before .before .before in
+    let c₆ : _ = c₄ .before .before in
+    rw (c .permanent-of .ensures) (sym (ends-known _ _ (c₆ .if1 .left) (c₄ .if2 .left) _ (c .before .before .before .block-now .ensures) (omega arith)))
 
 pub ends-spec : {M : Type 1} → statement M
 ends-spec =

@@ -28,7 +28,11 @@ same-length : tie.Need-same-length
 same-length c = search needs
 
 returns : tie.Need-returns
-returns c = (late-length _ _ (c .before .before .before .before .before .before .before .before .before .before .before .before .pre .0 .records), late-stored _ _ (c .before .before .before .before .before .before .before .before .before .before .before .before .pre .0 .records) _ _ (c .before .before .before .before .before .before .before .before .results .ensures) (omega arith) (c .before .before .before .before .before .before .put-header .ensures) (c .before .before .put-result-records .ensures))
+returns c =
+    let c₆ : _ = c .before .before .before .before .before .before in
+    let c₈ : _ = c₆ .before .before in
+    let c₁₂ : _ = c₈ .before .before .before .before in
+    (late-length _ _ (c₁₂ .pre .0 .records), late-stored _ _ (c₁₂ .pre .0 .records) _ _ (c₈ .results .ensures) (omega arith) (c₆ .put-header .ensures) (c .before .before .put-result-records .ensures))
 
 pub put-late-reply-spec : {M : Type 1} → statement M
 put-late-reply-spec =

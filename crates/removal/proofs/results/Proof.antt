@@ -44,8 +44,9 @@ loop-less c = omega arith
 
 loop-again : tie.Need-loop-again Inv-loop μ-loop
 loop-again c =
+    let c₄ : _ = c .before .before .before .before in
     let l = c .before .before .loop in
-    let a = c .before .before .before .before .args in
+    let a = c₄ .args in
     let f : ℕ → ℕ = resultBy (a .m .position) (a .m .result) (a .m .cancelled) (a .code) in
     let e = tabulate-length f 16 in
     (omega arith, rw (l .inv .1, c .result-at .ensures, ← tabulate-at f 16 (l .i) 0 (omega arith)) (fill-more (replicate 16 0) (tabulate f 16) (l .i) 0 (omega arith) (omega arith)))
