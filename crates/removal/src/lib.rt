@@ -21,7 +21,6 @@ ghost use Rattle.model.specs.Work.{
   stillRegistered,
   ends,
   endCode,
-  resultAt,
   lateReply,
   ending,
   settled,
@@ -30,7 +29,7 @@ ghost use Rattle.model.specs.Work.{
   worksOn,
   working,
 };
-ghost use Rattle.removal.specs.Fits.{Fits, Works, Quiet};
+ghost use Rattle.removal.specs.Fits.{resultBy, Fits, Works, Quiet};
 
 const DR_MEM_OK: u32 = 0x6f;
 
@@ -119,10 +118,9 @@ fn result_at(i: u64, position: u64, result: u64, cancelled: bool, code: u64) -> 
     RES_FAILURE
 }
 
-// Every record's.
-fn results(state: &State, m: Removal, code: u64) -> [u64; 16]
-    requires { ⌜ code ≡ endCode (now state) m ⌝ }
-    ensures { λ r. ⌜ r ≡ tabulate (λ i. resultAt (now (state .entry)) m i) 16 ⌝ }
+// Every record's, given the code of the end.
+fn results(m: Removal, code: u64) -> [u64; 16]
+    ensures { λ r. ⌜ r ≡ tabulate (resultBy (m .position) (m .result) (m .cancelled) code) 16 ⌝ }
 {
     let result = m.result;
     let position = m.position;
@@ -156,7 +154,7 @@ fn put_late_reply(state: &State, m: Removal, code: u64, out: &mut [u8]) -> usize
     let n = m.count as usize;
     let address = m.address;
     let size = m.size;
-    let result = results(state, m, code);
+    let result = results(m, code);
     let rest = n * records::RESULT_BYTES;
     records::put_header(out, m.handle, DR_MEM_OK, n as u32, m.request, rest);
     records::put_result_records(state, out, address, size, result, n);

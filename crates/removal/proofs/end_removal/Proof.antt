@@ -30,7 +30,9 @@ returns c =
     let c₈ : _ = c₅ .before .before .before in
     let c₉ : _ = c₈ .before in
     let c₁₁ : _ = c₉ .before .before in
-    ends-replied _ _ _ (sym (c₉ .still-registered .ensures) ∙ c₈ .if1 .taken) (c₁₁ .end-code .ensures) (c₅ .put-late-reply .ensures .0) (c .ended .ensures) (c .before .clear-removal .ensures) (c₅ .put-late-reply .ensures .1)
+    ends-replied _ _ _ (sym (c₉ .still-registered .ensures) ∙ c₈ .if1 .taken)
+    (c₁₁ .end-code .ensures)
+    (c₅ .put-late-reply .ensures .0) (c .ended .ensures) (c .before .clear-removal .ensures) (c₅ .put-late-reply .ensures .1)
 
 clear-removal-requires-2 : tie.Need-clear-removal-requires-2
 clear-removal-requires-2 c κs = search needs
@@ -42,7 +44,8 @@ returns-2 : tie.Need-returns-2
 returns-2 c =
     let c₄ : _ = c .before .before .before .before in
     let c₆ : _ = c₄ .before .before in
-    ends-silent _ _ _ (sym (c₄ .still-registered .ensures) ∙ c .before .before .before .if1 .left) (c₆ .end-code .ensures) refl (c .ended2 .ensures) (c .before .clear-removal2 .ensures) refl
+    ends-silent _ _ _ (sym (c₄ .still-registered .ensures) ∙ c .before .before .before .if1 .left)
+    (c₆ .end-code .ensures) refl (c .ended2 .ensures) (c .before .clear-removal2 .ensures) refl
 
 pub end-removal-spec : {M : Type 1} → statement M
 end-removal-spec =

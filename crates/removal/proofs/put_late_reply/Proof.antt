@@ -1,7 +1,8 @@
 -- `removal::put_late_reply` meets its contract: the headers and the records are the reply.
 -- Assumes nothing.
+use mathlib.Core.Path.{_∙_}
 use native.Mathlib.Omega.{arith}
-use Rattle.removal.proofs.Laws.{late-length, late-stored}
+use Rattle.removal.proofs.Laws.{results-are, late-length, late-stored}
 use borrow.Author.Needs.{needs}
 use Rattle.removal.proofs.put_late_reply.Statement.{statement}
 use Rattle.removal.proofs.put_late_reply.Tie as tie
@@ -32,7 +33,11 @@ returns c =
     let c₆ : _ = c .before .before .before .before .before .before in
     let c₈ : _ = c₆ .before .before in
     let c₁₂ : _ = c₈ .before .before .before .before in
-    (late-length _ _ (c₁₂ .pre .0 .records), late-stored _ _ (c₁₂ .pre .0 .records) _ _ (c₈ .results .ensures) (omega arith) (c₆ .put-header .ensures) (c .before .before .put-result-records .ensures))
+    let few = c₁₂ .pre .0 .records in
+    let result = c₈ .results .ensures ∙ results-are _ _ _ (c₁₂ .pre .1) in (
+      late-length _ _ few,
+      late-stored _ _ few _ _ result (omega arith) (c₆ .put-header .ensures) (c .before .before .put-result-records .ensures),
+    )
 
 pub put-late-reply-spec : {M : Type 1} → statement M
 put-late-reply-spec =

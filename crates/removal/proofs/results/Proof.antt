@@ -1,6 +1,6 @@
 -- `removal::results` meets its contract. The loop's invariant: the results passed are those of the definition. The measure is what is left of the sixteen.
 -- Assumes nothing.
-use Rattle.removal.proofs.Laws.{resultBy, results-are}
+use Rattle.removal.specs.Fits.{resultBy}
 use native.Mathlib.Omega.{arith}
 use mathlib.Core.Path.{_≡_, refl, _∙_}
 use mathlib.Core.List.{_++_}
@@ -13,10 +13,10 @@ use Rattle.removal.proofs.results.Statement.{statement}
 use Rattle.removal.proofs.results.Tie as tie
 
 abbrev Inv-loop : tie.InvT-loop
-Inv-loop state code result position cancelled out₀ i₀ out i = (i ≤ 16) × (out ≡ take i (tabulate (resultBy position result cancelled code) 16) ++ drop i (replicate 16 0))
+Inv-loop code result position cancelled out₀ i₀ out i = (i ≤ 16) × (out ≡ take i (tabulate (resultBy position result cancelled code) 16) ++ drop i (replicate 16 0))
 
 abbrev μ-loop : tie.MeasureT-loop
-μ-loop state code result position cancelled out₀ i₀ out i = 16 - i
+μ-loop code result position cancelled out₀ i₀ out i = 16 - i
 
 loop-holds : tie.Need-loop-holds Inv-loop μ-loop
 loop-holds c = (omega arith, refl)
@@ -49,14 +49,16 @@ loop-again c =
     let a = c₄ .args in
     let f : ℕ → ℕ = resultBy (a .m .position) (a .m .result) (a .m .cancelled) (a .code) in
     let e = tabulate-length f 16 in
-    (omega arith, rw (l .inv .1, c .result-at .ensures, ← tabulate-at f 16 (l .i) 0 (omega arith)) (fill-more (replicate 16 0) (tabulate f 16) (l .i) 0 (omega arith) (omega arith)))
+    let at = tabulate-at f 16 (l .i) 0 (omega arith) in
+    let more = fill-more (replicate 16 0) (tabulate f 16) (l .i) 0 (omega arith) (omega arith) in
+    (omega arith, rw (l .inv .1, c .result-at .ensures, ← at) more)
 
 returns : tie.Need-returns Inv-loop μ-loop
 returns c =
     let a = c .before .before .before .args in
     let f : ℕ → ℕ = resultBy (a .m .position) (a .m .result) (a .m .cancelled) (a .code) in
     let e = tabulate-length f 16 in
-    c .before .loop .inv .1 ∙ fill-done (replicate 16 0) (tabulate f 16) (c .before .loop .i) (omega arith) (omega arith) ∙ results-are _ _ _ (c .before .before .before .pre)
+    c .before .loop .inv .1 ∙ fill-done (replicate 16 0) (tabulate f 16) (c .before .loop .i) (omega arith) (omega arith)
 
 pub results-spec : {M : Type 1} → statement M
 results-spec =

@@ -19,7 +19,9 @@ settle-requires c κs = search needs
 returns : tie.Need-returns
 returns c =
     let c₅ : _ = c .before .before .before .before .before in
-    works-nowork _ _ _ (c₅ .block-now .ensures) _ (sym (c .before .before .before .configured-of .ensures) ∙ c .before .before .if1 .taken) (c .settle .ensures)
+    works-nowork _ _ _ (c₅ .block-now .ensures) _
+    (sym (c .before .before .before .configured-of .ensures) ∙ c .before .before .if1 .taken)
+    (c .settle .ensures)
 
 pages-of-requires : tie.Need-pages-of-requires
 pages-of-requires c κs = search needs
@@ -47,7 +49,9 @@ returns-2 c =
     let c₅ : _ = c .before .before .before .before .before in
     let c₆ : _ = c₅ .before in
     let c₈ : _ = c₆ .before .before in
-    works-collects _ _ _ (c₈ .block-now .ensures) _ _ (λ e. c₅ .if1 .left (c₆ .configured-of .ensures ∙ e)) (c .before .before .pages-moved .ensures ∙ rw (c .before .before .before .pages-of .ensures)) (c .collect .ensures)
+    works-collects _ _ _ (c₈ .block-now .ensures) _ _ (λ e. c₅ .if1 .left (c₆ .configured-of .ensures ∙ e))
+    (c .before .before .pages-moved .ensures ∙ rw (c .before .before .before .pages-of .ensures))
+    (c .collect .ensures)
 
 pub work-on-spec : {M : Type 1} → statement M
 work-on-spec =
