@@ -21,13 +21,13 @@ use Rattle.model.specs.Journal.{collectedEvent, settledEvent, removalEndEvent}
 use Rattle.model.specs.Messages.{Effect, effect}
 use Rattle.model.specs.Made.{Makes}
 use Rattle.model.specs.Memory.{resultRecord}
-use Rattle.model.specs.Work.{addrNow, sizeNow, blockNow, isKnown, stillRegistered, ends, endCode, resultAt, lateReply, ending, settled, collecting, pagesMoved, collects, worksOn, stepOf, working}
+use Rattle.model.specs.Work.{addrNow, sizeNow, blockNow, stillRegistered, ends, endCode, resultAt, lateReply, ending, settled, collecting, pagesMoved, collects, worksOn, stepOf, working}
 use Rattle.model.proofs.Choice.{on-pick, or-false, tabulate-at, joined-length}
 use Rattle.model.proofs.Replies.{result-length}
 use Rattle.model.proofs.Rules.{RemovalFacts, sound-facts, block-rules}
 use Rattle.records.specs.Header.{memoryHeader}
 use Rattle.records.proofs.Parts.{reply-length, reply-stored}
-use Rattle.removal.specs.Fits.{Fits, Works, Quiet}
+use Rattle.removal.specs.Fits.{resultBy, Fits, Works, Quiet}
 
 -- the end, and its code: cancelled; all settled; unknown; known
 module _ (s : List ℕ) (m : Removal) where
@@ -69,11 +69,7 @@ module _ (s : List ℕ) (m : Removal) where
 pub registered-at : (s : List ℕ) (m : Removal) (k : ℕ) → k ≡ m .channel * 4 → stillRegistered s m ≡ (eqb (stageAt s k) 2 and eqb (handleAt s k) (m .handle))
 registered-at s m k e = rw (e, add-zero)
 
--- record i's result by the words of the removal and the code of its end
-abbrev pub resultBy : ℕ → List ℕ → Bool → ℕ → ℕ → ℕ
-resultBy position result cancelled code i =
-    pick (ltb i position) (getD result i 0) (pick cancelled 3 (pick (eqb i position) code 1))
-
+-- with the code of the end they are the definition's results
 pub results-are : (s : List ℕ) (m : Removal) (code : ℕ) → code ≡ endCode s m → tabulate (resultBy (m .position) (m .result) (m .cancelled) code) 16 ≡ tabulate (λ i. resultAt s m i) 16
 unfolding resultAt
 results-are s m code e = ap (λ (x : ℕ). tabulate (resultBy (m .position) (m .result) (m .cancelled) x) 16) e

@@ -1,13 +1,23 @@
--- What the parts of a work step ask of the state and its removal, and the contract of a part that writes no reply.
+-- The results at a removal's end, what the parts of a work step ask of the state and the removal, and the contract of a part that
+-- writes no reply.
 -- Assumes nothing.
 use Prim.Native.Nat.{ℕ, _<_, _≤_}
 use mathlib.Core.Path.{_≡_}
+use mathlib.Core.Bool.{Bool}
 use mathlib.Core.List.{List, []}
+use lib.ListN.{getD}
+use lib.Dec.{eqb, ltb}
+use Rattle.model.specs.Choice.{pick}
 use Rattle.model.specs.declared.Removal.{Removal}
 use Rattle.model.specs.declared.Made.{Made}
 use Rattle.model.specs.Layout.{blockAt, blocksOf}
 use Rattle.model.specs.Messages.{Effect}
 use Rattle.model.specs.Work.{blockNow}
+
+-- record i's result by the words of the removal and the code of its end
+abbrev pub resultBy : ℕ → List ℕ → Bool → ℕ → ℕ → ℕ
+resultBy position result cancelled code i =
+    pick (ltb i position) (getD result i 0) (pick cancelled 3 (pick (eqb i position) code 1))
 
 -- the blocks and the records are at most sixteen
 pub record Fits (s : List ℕ) (m : Removal) : Type 0 where

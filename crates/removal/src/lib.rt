@@ -21,7 +21,6 @@ ghost use Rattle.model.specs.Work.{
   stillRegistered,
   ends,
   endCode,
-  resultAt,
   lateReply,
   ending,
   settled,
@@ -30,7 +29,7 @@ ghost use Rattle.model.specs.Work.{
   worksOn,
   working,
 };
-ghost use Rattle.removal.specs.Fits.{Fits, Works, Quiet};
+ghost use Rattle.removal.specs.Fits.{resultBy, Fits, Works, Quiet};
 
 const DR_MEM_OK: u32 = 0x6f;
 
@@ -89,7 +88,8 @@ fn end_code(state: &State, m: Removal) -> u64
     requires { ⌜ Fits (now state) m ⌝ }
     ensures { λ r. ⌜ r ≡ endCode (now (state .entry)) m ⌝ }
 {
-    if m.cancelled {
+    let cancelled = m.cancelled;
+    if cancelled {
         return RES_CANCELLED;
     }
     if m.count <= m.position {
@@ -118,10 +118,9 @@ fn result_at(i: u64, position: u64, result: u64, cancelled: bool, code: u64) -> 
     RES_FAILURE
 }
 
-// Every record's.
-fn results(state: &State, m: Removal, code: u64) -> [u64; 16]
-    requires { ⌜ code ≡ endCode (now state) m ⌝ }
-    ensures { λ r. ⌜ r ≡ tabulate (λ i. resultAt (now (state .entry)) m i) 16 ⌝ }
+// Every record's, given the code of the end.
+fn results(m: Removal, code: u64) -> [u64; 16]
+    ensures { λ r. ⌜ r ≡ tabulate (resultBy (m .position) (m .result) (m .cancelled) code) 16 ⌝ }
 {
     let result = m.result;
     let position = m.position;
@@ -155,7 +154,7 @@ fn put_late_reply(state: &State, m: Removal, code: u64, out: &mut [u8]) -> usize
     let n = m.count as usize;
     let address = m.address;
     let size = m.size;
-    let result = results(state, m, code);
+    let result = results(m, code);
     let rest = n * records::RESULT_BYTES;
     records::put_header(out, m.handle, DR_MEM_OK, n as u32, m.request, rest);
     records::put_result_records(state, out, address, size, result, n);
@@ -242,10 +241,10 @@ fn collecting(m: Removal, n: u64) -> Removal
     }
 }
 
-// Settles the record at the position; `n` pages were moved from the block, and no output is touched.
-fn settle(state: &mut State, m: Removal, r: u64, n: u64, block: u64) -> Made
+// Settles the record at the position; so many pages were moved from the block.
+fn settle(state: &mut State, m: Removal, r: u64, pages: u64, block: u64) -> Made
     requires { ⌜ m .position < 16 ⌝ }
-    ensures { λ r′. ⌜ Quiet (effect (settledEvent (m .channel) (m .position) r n block) (withRemoval (now (state .entry)) (settled m r)) []) r′ (now (state .exit)) ⌝ }
+    ensures { λ r′. ⌜ Quiet (effect (settledEvent (m .channel) (m .position) r pages block) (withRemoval (now (state .entry)) (settled m r)) []) r′ (now (state .exit)) ⌝ }
 {
     state::store_removal(state, settled(m, r));
     Made {
@@ -256,7 +255,7 @@ fn settle(state: &mut State, m: Removal, r: u64, n: u64, block: u64) -> Made
             service: 0,
             record: m.position,
             code: r,
-            count: n,
+            count: pages,
             word: block,
         },
     }

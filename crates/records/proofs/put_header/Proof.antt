@@ -35,7 +35,13 @@ same-length c = search needs
 
 returns : tie.Need-returns
 unfolding bytesOf memoryHeader
-returns c = rw (c .before .before .put642 .ensures, c .before .before .before .before .before .before .put324 .ensures, c .before .before .before .before .before .before .before .before .before .before .put323 .ensures, c .before .before .before .before .before .before .before .before .before .before .before .before .before .before .put64 .ensures, c .before .before .before .before .before .before .before .before .before .before .before .before .before .before .before .before .before .before .put322 .ensures, c .before .before .before .before .before .before .before .before .before .before .before .before .before .before .before .before .before .before .before .before .before .before .put32 .ensures)
+returns c =
+    let c₆ : _ = c .before .before .before .before .before .before in
+    let c₁₀ : _ = c₆ .before .before .before .before in
+    let c₁₄ : _ = c₁₀ .before .before .before .before in
+    let c₁₈ : _ = c₁₄ .before .before .before .before in
+    let c₂₂ : _ = c₁₈ .before .before .before .before in
+    rw (c .before .before .put642 .ensures, c₆ .put324 .ensures, c₁₀ .put323 .ensures, c₁₄ .put64 .ensures, c₁₈ .put322 .ensures, c₂₂ .put32 .ensures)
 
 pub put-header-spec : {M : Type 1} → statement M
 put-header-spec =

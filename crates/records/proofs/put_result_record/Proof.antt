@@ -30,7 +30,15 @@ same-length : tie.Need-same-length
 same-length c = search needs
 
 returns : tie.Need-returns
-returns c = record-stored _ _ _ _ _ (c .before .before .before .before .before .before .before .before .before .before .before .before .before .before .before .before .before .before .before .before .before .pre) (c .before .before .before .before .before .before .before .before .before .before .before .before .before .before .before .before .before .before .put64 .ensures) (c .before .before .before .before .before .before .before .before .before .before .before .before .before .before .put642 .ensures) (low-bytes _ 16 _ (c .before .before .before .before .before .before .before .before .before .before .put32 .ensures)) (low-bytes _ 20 _ (c .before .before .before .before .before .before .put322 .ensures)) (c .before .before .put323 .ensures)
+returns c =
+    let c₆ : _ = c .before .before .before .before .before .before in
+    let c₁₀ : _ = c₆ .before .before .before .before in
+    let c₁₄ : _ = c₁₀ .before .before .before .before in
+    let c₁₈ : _ = c₁₄ .before .before .before .before in
+    let c₂₁ : _ = c₁₈ .before .before .before in
+    record-stored _ _ _ _ _ (c₂₁ .pre) (c₁₈ .put64 .ensures) (c₁₄ .put642 .ensures)
+    (low-bytes _ 16 _ (c₁₀ .put32 .ensures)) (low-bytes _ 20 _ (c₆ .put322 .ensures))
+    (c .before .before .put323 .ensures)
 
 pub put-result-record-spec : {M : Type 1} → statement M
 put-result-record-spec =

@@ -85,12 +85,14 @@ loop-less c = omega arith
 loop-again : tie.Need-loop-again Inv-loop μ-loop
 unfolding resultRecord
 loop-again c =
-    let l = c .before .before .before .before .before .before .loop in
+    let c₄ : _ = c .before .before .before .before in
+    let c₆ : _ = c₄ .before .before in
+    let l = c₆ .loop in
     let fits : 32 + l .i * 28 + 28 ≤ length (l .out) = omega arith in
     let span : 32 + l .i * 28 + 28 - (32 + l .i * 28) ≡ 28 = omega arith in (
       omega arith,
       omega arith,
-      record-more _ 28 (λ i. result-length _ _ _ _) _ _ _ _ _ (l .inv .2) (c .before .before .put-result-record .ensures ∙ rw (c .before .before .before .before .status-of .ensures)) span fits,
+      record-more _ 28 (λ i. result-length _ _ _ _) _ _ _ _ _ (l .inv .2) (c .before .before .put-result-record .ensures ∙ rw (c₄ .status-of .ensures)) span fits,
     )
 
 same-length : tie.Need-same-length Inv-loop μ-loop

@@ -1,37 +1,33 @@
+-- `removal::end_code` meets its contract: the cases of the definition.
+-- Assumes nothing.
 use native.Mathlib.Omega.{arith}
 use mathlib.Core.Path.{sym}
 use Rattle.removal.proofs.Laws.{code-cancelled, code-settled, code-known, code-unknown}
 use borrow.Author.Needs.{needs}
 use Rattle.removal.proofs.end_code.Statement.{statement}
 use Rattle.removal.proofs.end_code.Tie as tie
-use Rattle.removal.proofs.end_code.Reads as reads
-use Rattle.removal.proofs.end_code.Lts as lts
-use Rattle.removal.proofs.block_now.Reads as block-now-reads
-use Rattle.state.proofs.blocks_of.Reads as blocks-of-reads
 
--- src/lib.rt:93:9
 returns : tie.Need-returns
 returns c = sym (code-cancelled _ _ (c .if1 .taken))
 
--- src/lib.rt:96:9
 returns-2 : tie.Need-returns-2
 returns-2 c = sym (code-settled _ _ (c .before .before .if1 .left) (c .if2 .taken))
 
--- src/lib.rt:98:9
 block-now-requires : tie.Need-block-now-requires
 block-now-requires c κs = (c .before .before .before .pre .blocks, omega arith)
 
--- src/lib.rt:99:16
 blocks-of-requires : tie.Need-blocks-of-requires
 blocks-of-requires c κs = search needs
 
--- src/lib.rt:100:9
 returns-3 : tie.Need-returns-3
-returns-3 c = sym (code-known _ _ (c .before .before .before .before .before .if1 .left) (c .before .before .before .if2 .left) _ (c .before .before .block-now .ensures) (omega arith))
+returns-3 c =
+    let c₅ : _ = c .before .before .before .before .before in
+    sym (code-known _ _ (c₅ .if1 .left) (c .before .before .before .if2 .left) _ (c .before .before .block-now .ensures) (omega arith))
 
--- src/lib.rt:88:1
 returns-4 : tie.Need-returns-4
-returns-4 c = sym (code-unknown _ _ (c .before .before .before .before .before .if1 .left) (c .before .before .before .if2 .left) _ (c .before .before .block-now .ensures) (omega arith))
+returns-4 c =
+    let c₅ : _ = c .before .before .before .before .before in
+    sym (code-unknown _ _ (c₅ .if1 .left) (c .before .before .before .if2 .left) _ (c .before .before .block-now .ensures) (omega arith))
 
 pub end-code-spec : {M : Type 1} → statement M
 end-code-spec =

@@ -1,42 +1,37 @@
+-- `removal::ends` meets its contract: the cases of the definition.
+-- Assumes nothing.
 use native.Mathlib.Omega.{arith}
 use mathlib.Core.Path.{sym}
 use Rattle.removal.proofs.Laws.{ends-cancelled, ends-settled, ends-known, ends-unknown}
 use borrow.Author.Needs.{needs}
 use Rattle.removal.proofs.ends.Statement.{statement}
 use Rattle.removal.proofs.ends.Tie as tie
-use Rattle.removal.proofs.ends.Reads as reads
-use Rattle.removal.proofs.ends.Lts as lts
-use Rattle.removal.proofs.block_now.Reads as block-now-reads
-use Rattle.state.proofs.blocks_of.Reads as blocks-of-reads
-use Rattle.state.proofs.permanent_of.Reads as permanent-of-reads
 
--- src/lib.rt:75:9
 returns : tie.Need-returns
-returns c = sym (ends-cancelled _ _ (c .if1 .taken))
+returns c = sym (ends-cancelled (c .before .args .state .now) (c .before .args .m) (c .if1 .taken))
 
--- src/lib.rt:78:9
 returns-2 : tie.Need-returns-2
 returns-2 c = sym (ends-settled _ _ (c .before .before .if1 .left) (c .if2 .taken))
 
--- src/lib.rt:80:9
 block-now-requires : tie.Need-block-now-requires
 block-now-requires c κs = (c .before .before .before .pre .blocks, omega arith)
 
--- src/lib.rt:81:8
 blocks-of-requires : tie.Need-blocks-of-requires
 blocks-of-requires c κs = search needs
 
--- src/lib.rt:82:9
 returns-3 : tie.Need-returns-3
-returns-3 c = sym (ends-unknown _ _ (c .before .before .before .before .before .if1 .left) (c .before .before .before .if2 .left) _ (c .before .before .block-now .ensures) (omega arith))
+returns-3 c =
+    let c₅ : _ = c .before .before .before .before .before in
+    sym (ends-unknown _ _ (c₅ .if1 .left) (c .before .before .before .if2 .left) _ (c .before .before .block-now .ensures) (omega arith))
 
--- src/lib.rt:84:5
 permanent-of-requires : tie.Need-permanent-of-requires
 permanent-of-requires c κs = omega arith
 
--- src/lib.rt:70:1
 returns-4 : tie.Need-returns-4
-returns-4 c = rw (c .permanent-of .ensures) (sym (ends-known _ _ (c .before .before .before .before .before .before .if1 .left) (c .before .before .before .before .if2 .left) _ (c .before .before .before .block-now .ensures) (omega arith)))
+returns-4 c =
+    let c₄ : _ = c .before .before .before .before in
+    let c₆ : _ = c₄ .before .before in
+    rw (c .permanent-of .ensures) (sym (ends-known _ _ (c₆ .if1 .left) (c₄ .if2 .left) _ (c .before .before .before .block-now .ensures) (omega arith)))
 
 pub ends-spec : {M : Type 1} → statement M
 ends-spec =

@@ -1,73 +1,64 @@
-use Rattle.removal.proofs.Laws.{resultBy, results-are}
+-- `removal::results` meets its contract. The loop's invariant: the results passed are those of the definition. The measure is what is left of the sixteen.
+-- Assumes nothing.
+use Rattle.removal.specs.Fits.{resultBy}
 use native.Mathlib.Omega.{arith}
 use mathlib.Core.Path.{_≡_, refl, _∙_}
 use mathlib.Core.List.{_++_}
-use Prim.Native.Nat.{ℕ, _+_, _≤_, _-_}
-use lib.ListN.{getD, take, drop, replicate}
+use Prim.Native.Nat.{ℕ, _≤_, _-_}
+use lib.ListN.{take, drop, replicate}
 use Rattle.model.specs.Choice.{tabulate}
-use Rattle.model.specs.Work.{resultAt}
 use Rattle.model.proofs.Choice.{tabulate-at, tabulate-length}
 use Rattle.state.proofs.Runs.{fill-more, fill-done}
 use Rattle.removal.proofs.results.Statement.{statement}
 use Rattle.removal.proofs.results.Tie as tie
-use Rattle.removal.proofs.results.Reads as reads
-use Rattle.removal.proofs.results.Lts as lts
-use Rattle.removal.proofs.result_at.Reads as result-at-reads
 
 abbrev Inv-loop : tie.InvT-loop
-Inv-loop state code result position cancelled out₀ i₀ out i = (i ≤ 16) × (out ≡ take i (tabulate (resultBy position result cancelled code) 16) ++ drop i (replicate 16 0))
+Inv-loop code result position cancelled out₀ i₀ out i = (i ≤ 16) × (out ≡ take i (tabulate (resultBy position result cancelled code) 16) ++ drop i (replicate 16 0))
 
 abbrev μ-loop : tie.MeasureT-loop
-μ-loop state code result position cancelled out₀ i₀ out i = 16 - i
+μ-loop code result position cancelled out₀ i₀ out i = 16 - i
 
--- src/lib.rt:131:5
 loop-holds : tie.Need-loop-holds Inv-loop μ-loop
 loop-holds c = (omega arith, refl)
 
--- src/lib.rt:132:48
 mul-result-at : tie.Need-mul-result-at Inv-loop μ-loop
 mul-result-at c = omega arith
 
--- src/lib.rt:132:48
 array-read-result-at : tie.Need-array-read-result-at Inv-loop μ-loop
 array-read-result-at c = omega arith
 
--- src/lib.rt:132:18
 result-at-requires : tie.Need-result-at-requires Inv-loop μ-loop
 result-at-requires c κs = tt
 
--- src/lib.rt:132:9
 mul-out : tie.Need-mul-out Inv-loop μ-loop
 mul-out c = omega arith
 
--- src/lib.rt:132:9
 array-write-out : tie.Need-array-write-out Inv-loop μ-loop
 array-write-out c = omega arith
 
--- src/lib.rt:133:9
 add-i : tie.Need-add-i Inv-loop μ-loop
 add-i c = omega arith
 
--- src/lib.rt:131:5
 loop-less : tie.Need-loop-less Inv-loop μ-loop
 loop-less c = omega arith
 
--- src/lib.rt:131:5
 loop-again : tie.Need-loop-again Inv-loop μ-loop
 loop-again c =
+    let c₄ : _ = c .before .before .before .before in
     let l = c .before .before .loop in
-    let a = c .before .before .before .before .args in
+    let a = c₄ .args in
     let f : ℕ → ℕ = resultBy (a .m .position) (a .m .result) (a .m .cancelled) (a .code) in
     let e = tabulate-length f 16 in
-    (omega arith, rw (l .inv .1, c .result-at .ensures, ← tabulate-at f 16 (l .i) 0 (omega arith)) (fill-more (replicate 16 0) (tabulate f 16) (l .i) 0 (omega arith) (omega arith)))
+    let at = tabulate-at f 16 (l .i) 0 (omega arith) in
+    let more = fill-more (replicate 16 0) (tabulate f 16) (l .i) 0 (omega arith) (omega arith) in
+    (omega arith, rw (l .inv .1, c .result-at .ensures, ← at) more)
 
--- src/lib.rt:122:1
 returns : tie.Need-returns Inv-loop μ-loop
 returns c =
     let a = c .before .before .before .args in
     let f : ℕ → ℕ = resultBy (a .m .position) (a .m .result) (a .m .cancelled) (a .code) in
     let e = tabulate-length f 16 in
-    c .before .loop .inv .1 ∙ fill-done (replicate 16 0) (tabulate f 16) (c .before .loop .i) (omega arith) (omega arith) ∙ results-are _ _ _ (c .before .before .before .pre)
+    c .before .loop .inv .1 ∙ fill-done (replicate 16 0) (tabulate f 16) (c .before .loop .i) (omega arith) (omega arith)
 
 pub results-spec : {M : Type 1} → statement M
 results-spec =

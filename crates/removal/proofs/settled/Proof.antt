@@ -1,24 +1,20 @@
+-- `removal::settled` meets its contract: field by field.
+-- Assumes nothing.
 use mathlib.Core.Path.{refl}
 use Rattle.model.specs.Work.{settled}
 use borrow.Author.Needs.{needs}
 use Rattle.removal.proofs.settled.Statement.{statement}
 use Rattle.removal.proofs.settled.Tie as tie
-use Rattle.removal.proofs.settled.Reads as reads
-use Rattle.removal.proofs.settled.Lts as lts
 
--- src/lib.rt:208:5
 mul-result : tie.Need-mul-result
 mul-result c = search needs
 
--- src/lib.rt:208:5
 array-write-result : tie.Need-array-write-result
 array-write-result c = search needs
 
--- src/lib.rt:215:19
 add-t10 : tie.Need-add-t10
 add-t10 c = search needs
 
--- src/lib.rt:201:1
 returns : tie.Need-returns
 unfolding settled
 returns c = refl

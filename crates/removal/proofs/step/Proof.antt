@@ -1,43 +1,45 @@
+-- `removal::step` meets its contract: the cases of the definition, by what a sound state gives.
+-- Assumes nothing.
 use mathlib.Core.Path.{sym, _∙_}
 use Rattle.removal.proofs.Laws.{facts, fits, works, step-ends, step-works}
 use borrow.Author.Needs.{needs}
 use Rattle.removal.proofs.step.Statement.{statement}
 use Rattle.removal.proofs.step.Tie as tie
-use Rattle.removal.proofs.step.Reads as reads
-use Rattle.removal.proofs.step.Lts as lts
-use Rattle.removal.proofs.end_removal.Reads as end-removal-reads
-use Rattle.removal.proofs.ends.Reads as ends-reads
-use Rattle.removal.proofs.work_on.Reads as work-on-reads
-use Rattle.state.proofs.load_removal.Reads as load-removal-reads
 
--- src/lib.rt:320:9
 load-removal-requires : tie.Need-load-removal-requires
 load-removal-requires c κs = search needs
 
--- src/lib.rt:321:8
 ends-requires : tie.Need-ends-requires
-ends-requires c κs = fits _ _ (c .before .load-removal .ensures) (c .before .before .before .before .pre .0) (c .before .before .before .before .pre .1)
+ends-requires c κs =
+    let c₄ : _ = c .before .before .before .before in
+    fits _ _ (c .before .load-removal .ensures) (c₄ .pre .0) (c₄ .pre .1)
 
--- src/lib.rt:322:9
 end-removal-requires : tie.Need-end-removal-requires
 end-removal-requires c κs =
-    (fits _ _ (c .before .before .before .before .before .load-removal .ensures) (c .before .before .before .before .before .before .before .before .pre .0) (c .before .before .before .before .before .before .before .before .pre .1), facts _ _ (c .before .before .before .before .before .load-removal .ensures) (c .before .before .before .before .before .before .before .before .pre .0) (c .before .before .before .before .before .before .before .before .pre .1) .channels, c .before .before .before .before .before .before .before .before .pre .4)
+    let c₅ : _ = c .before .before .before .before .before in
+    let c₈ : _ = c₅ .before .before .before in
+    (fits _ _ (c₅ .load-removal .ensures) (c₈ .pre .0) (c₈ .pre .1), facts _ _ (c₅ .load-removal .ensures) (c₈ .pre .0) (c₈ .pre .1) .channels, c₈ .pre .4)
 
--- src/lib.rt:322:9
 same-length : tie.Need-same-length
 same-length c = search needs
 
--- src/lib.rt:322:9
 returns : tie.Need-returns
-returns c = step-ends _ _ _ _ (c .before .before .before .before .before .before .before .before .load-removal .ensures) (sym (c .before .before .before .before .before .before .ends .ensures) ∙ c .before .before .before .before .before .if1 .taken) (c .before .before .end-removal .ensures)
+returns c =
+    let c₅ : _ = c .before .before .before .before .before in
+    let c₆ : _ = c₅ .before in
+    let c₈ : _ = c₆ .before .before in
+    step-ends _ _ _ _ (c₈ .load-removal .ensures) (sym (c₆ .ends .ensures) ∙ c₅ .if1 .taken) (c .before .before .end-removal .ensures)
 
--- src/lib.rt:324:5
 work-on-requires : tie.Need-work-on-requires
-work-on-requires c κs = works _ _ (c .before .before .before .before .load-removal .ensures) (c .before .before .before .before .before .before .before .pre .0) (c .before .before .before .before .before .before .before .pre .1) (sym (c .before .before .ends .ensures) ∙ c .before .if1 .left)
+work-on-requires c κs =
+    let c₄ : _ = c .before .before .before .before in
+    let c₇ : _ = c₄ .before .before .before in
+    works _ _ (c₄ .load-removal .ensures) (c₇ .pre .0) (c₇ .pre .1) (sym (c .before .before .ends .ensures) ∙ c .before .if1 .left)
 
--- src/lib.rt:316:1
 returns-2 : tie.Need-returns-2
-returns-2 c = step-works _ _ _ _ (c .before .before .before .before .before .load-removal .ensures) (sym (c .before .before .before .ends .ensures) ∙ c .before .before .if1 .left) (c .work-on .ensures)
+returns-2 c =
+    let c₅ : _ = c .before .before .before .before .before in
+    step-works _ _ _ _ (c₅ .load-removal .ensures) (sym (c .before .before .before .ends .ensures) ∙ c .before .before .if1 .left) (c .work-on .ensures)
 
 pub step-spec : {M : Type 1} → statement M
 step-spec =

@@ -1,56 +1,57 @@
+-- `removal::work_on` meets its contract: the cases of the definition. What remains of the block bounds the pages moved.
+-- Assumes nothing.
 use native.Mathlib.Omega.{arith}
 use mathlib.Core.Path.{sym, _∙_}
 use Rattle.removal.proofs.Laws.{works-nowork, works-collects}
 use borrow.Author.Needs.{needs}
 use Rattle.removal.proofs.work_on.Statement.{statement}
 use Rattle.removal.proofs.work_on.Tie as tie
-use Rattle.removal.proofs.work_on.Reads as reads
-use Rattle.removal.proofs.work_on.Lts as lts
-use Rattle.removal.proofs.block_now.Reads as block-now-reads
-use Rattle.removal.proofs.collect.Reads as collect-reads
-use Rattle.removal.proofs.pages_moved.Reads as pages-moved-reads
-use Rattle.removal.proofs.settle.Reads as settle-reads
-use Rattle.state.proofs.configured_of.Reads as configured-of-reads
-use Rattle.state.proofs.pages_of.Reads as pages-of-reads
 
--- src/lib.rt:307:9
 block-now-requires : tie.Need-block-now-requires
 block-now-requires c κs = search needs
 
--- src/lib.rt:308:8
 configured-of-requires : tie.Need-configured-of-requires
 configured-of-requires c κs = search needs
 
--- src/lib.rt:309:9
 settle-requires : tie.Need-settle-requires
 settle-requires c κs = search needs
 
--- src/lib.rt:309:9
 returns : tie.Need-returns
-returns c = works-nowork _ _ _ (c .before .before .before .before .before .block-now .ensures) _ (sym (c .before .before .before .configured-of .ensures) ∙ c .before .before .if1 .taken) (c .settle .ensures)
+returns c =
+    let c₅ : _ = c .before .before .before .before .before in
+    works-nowork _ _ _ (c₅ .block-now .ensures) _
+    (sym (c .before .before .before .configured-of .ensures) ∙ c .before .before .if1 .taken)
+    (c .settle .ensures)
 
--- src/lib.rt:311:25
 pages-of-requires : tie.Need-pages-of-requires
 pages-of-requires c κs = search needs
 
--- src/lib.rt:311:9
 pages-moved-requires : tie.Need-pages-moved-requires
-pages-moved-requires c κs = rw (c .pages-of .ensures, c .before .before .before .before .before .block-now .ensures) (let h = c .before .before .before .before .before .before .before .pre .remain in omega arith)
+pages-moved-requires c κs =
+    let c₅ : _ = c .before .before .before .before .before in
+    let c₇ : _ = c₅ .before .before in
+    rw (c .pages-of .ensures, c₅ .block-now .ensures) (let h = c₇ .pre .remain in omega arith)
 
--- src/lib.rt:312:5
 collect-requires : tie.Need-collect-requires
 collect-requires c κs =
-    let h = c .before .before .before .before .before .before .before .before .before .pre .remain in
-    let known = c .before .before .before .before .before .before .before .before .before .pre .known in
-    let few = c .before .before .before .before .before .before .before .before .before .pre .blocks in
+    let c₇ : _ = c .before .before .before .before .before .before .before in
+    let c₉ : _ = c₇ .before .before in
+    let h = c₉ .pre .remain in
+    let known = c₉ .pre .known in
+    let few = c₉ .pre .blocks in
     let n = c .before .pages-moved .ensures in
     let p = c .before .before .pages-of .ensures in
-    let b = c .before .before .before .before .before .before .before .block-now .ensures in
-    (b, omega (arith, rw (← b) at known), c .before .before .before .before .before .before .before .before .before .pre .place, omega (arith, rw (← b) at h))
+    let b = c₇ .block-now .ensures in
+    (b, omega (arith, rw (← b) at known), c₉ .pre .place, omega (arith, rw (← b) at h))
 
--- src/lib.rt:303:1
 returns-2 : tie.Need-returns-2
-returns-2 c = works-collects _ _ _ (c .before .before .before .before .before .before .before .before .block-now .ensures) _ _ (λ e. c .before .before .before .before .before .if1 .left (c .before .before .before .before .before .before .configured-of .ensures ∙ e)) (c .before .before .pages-moved .ensures ∙ rw (c .before .before .before .pages-of .ensures)) (c .collect .ensures)
+returns-2 c =
+    let c₅ : _ = c .before .before .before .before .before in
+    let c₆ : _ = c₅ .before in
+    let c₈ : _ = c₆ .before .before in
+    works-collects _ _ _ (c₈ .block-now .ensures) _ _ (λ e. c₅ .if1 .left (c₆ .configured-of .ensures ∙ e))
+    (c .before .before .pages-moved .ensures ∙ rw (c .before .before .before .pages-of .ensures))
+    (c .collect .ensures)
 
 pub work-on-spec : {M : Type 1} → statement M
 work-on-spec =
