@@ -29,12 +29,8 @@ use Rattle.records.specs.Header.{memoryHeader}
 use Rattle.records.proofs.Parts.{reply-length, reply-stored}
 use Rattle.removal.specs.Fits.{resultBy, Fits, Works, Quiet}
 
--- the end, and its code: cancelled; all settled; unknown; known
+-- the end, and its code: all settled; unknown; known
 module _ (s : List ℕ) (m : Removal) where
-  pub ends-cancelled : m .cancelled ≡ true → ends s m ≡ true
-  unfolding ends _or_
-  ends-cancelled e = rw e
-
   pub code-cancelled : m .cancelled ≡ true → endCode s m ≡ 3
   unfolding endCode pick
   code-cancelled e = rw e

@@ -2,13 +2,16 @@
 -- Assumes nothing.
 use native.Mathlib.Omega.{arith}
 use mathlib.Core.Path.{sym}
-use Rattle.removal.proofs.Laws.{ends-cancelled, ends-settled, ends-known, ends-unknown}
+use Rattle.model.specs.Choice.{_or_}
+use Rattle.model.specs.Work.{ends}
+use Rattle.removal.proofs.Laws.{ends-settled, ends-known, ends-unknown}
 use borrow.Author.Needs.{needs}
 use Rattle.removal.proofs.ends.Statement.{statement}
 use Rattle.removal.proofs.ends.Tie as tie
 
 returns : tie.Need-returns
-returns c = sym (ends-cancelled (c .before .args .state .now) (c .before .args .m) (c .if1 .taken))
+unfolding ends _or_
+returns c = rw (c .if1 .taken)
 
 returns-2 : tie.Need-returns-2
 returns-2 c = sym (ends-settled _ _ (c .before .before .if1 .left) (c .if2 .taken))
