@@ -1,0 +1,7 @@
+// A list of calls, one a line: each line read, its call made of the agent, and the answer written as text.
+mod answers;
+mod list;
+mod listing;
+mod made;
+
+pub use list::run;

@@ -1,0 +1,250 @@
+// The list of calls on standard input, answered on standard output. Input and output go in pieces of up to 65,536 bytes.
+ghost use Rattle.io.specs.Counts.{Counts};
+use crate::answers;
+use crate::made;
+use crate::made::Numbers;
+use libc::STDIN_FILENO;
+use lines::fields;
+use lines::fields::Number;
+use lines::output;
+use lines::output::Text;
+use lines::parts::bytes_within;
+use lines::parts::words_within;
+use model::State;
+
+// The longest line, without its line end.
+const LONGEST: usize = 32768;
+
+type LineBytes = [u8; LONGEST];
+
+// The words of journal that the host has.
+const WORDS: usize = 200;
+
+type Words = [u64; WORDS];
+
+// Where the host stands: the bytes of the line so far (above LONGEST: too long), the lines ended so far, and the words of journal and bytes of
+// output that the calls are lent.
+struct Place {
+    length: usize,
+    lines: u64,
+    journal: usize,
+    output: usize,
+}
+
+// Makes the call of a name other than output and journal.
+fn call(
+    name: &[u8],
+    rest: &[u8],
+    state: &mut State,
+    journal: &mut [u64],
+    out: &mut [u8],
+    text: &mut Text,
+    used: &mut usize,
+) -> bool {
+    if fields::same(name, b"receive") {
+        return made::receive(rest, state, journal, out, text, used);
+    }
+    if fields::same(name, b"work") {
+        return made::work(rest, state, journal, out, text, used);
+    }
+    if fields::same(name, b"drain") {
+        return made::drain(rest, state, journal, text, used);
+    }
+    if fields::same(name, b"offer") {
+        return made::offer(rest, state, journal, out, text, used);
+    }
+    if fields::same(name, b"withdraw") {
+        return made::withdraw(rest, state, journal, out, text, used);
+    }
+    if fields::same(name, b"close") {
+        return made::close(rest, state, journal, out, text, used);
+    }
+    if fields::same(name, b"show") {
+        return made::show(rest, state, text, used);
+    }
+    if fields::same(name, b"state") {
+        return made::state(rest, state, text, used);
+    }
+    if fields::same(name, b"setup") {
+        return made::setup(rest, state, text, used);
+    }
+    false
+}
+
+// The one number of a line, from 0 to `most`.
+fn up_to(most: u64, rest: &[u8]) -> Number {
+    let Numbers::Are(n, _) = made::exactly(1, rest) else {
+        return Number::Bad;
+    };
+    if most < n {
+        return Number::Bad;
+    }
+    Number::Value(n)
+}
+
+// What a line other than a blank one or a comment asks for: a lent length, or a call.
+fn answer(
+    line: &[u8],
+    place: Place,
+    state: &mut State,
+    journal: &mut [u64],
+    text: &mut Text,
+    used: &mut usize,
+) -> Place {
+    let mut next = place;
+    let end = fields::end_of(line, 0);
+    let name = &line[..end];
+    let rest = &line[end..];
+    if fields::same(name, b"output") {
+        if let Number::Value(n) = up_to(4096, rest) {
+            next.output = n as usize;
+            return next;
+        }
+    }
+    if fields::same(name, b"journal") {
+        if let Number::Value(n) = up_to(200, rest) {
+            next.journal = n as usize;
+            return next;
+        }
+    }
+    let mut out = [0u8; 4096];
+    let bytes = bytes_within(place.output, &out);
+    let words = words_within(place.journal, journal);
+    if !call(
+        name,
+        rest,
+        state,
+        &mut journal[..words],
+        &mut out[..bytes],
+        text,
+        used,
+    ) {
+        answers::bad_line(text, used, place.lines);
+    }
+    next
+}
+
+// A line without its line end is answered.
+fn answer_line(
+    line: &[u8],
+    place: Place,
+    state: &mut State,
+    journal: &mut Words,
+    text: &mut Text,
+    used: &mut usize,
+) -> Place {
+    if place.length == 0 || fields::is_comment(line) {
+        return place;
+    }
+    if LONGEST < place.length {
+        answers::bad_line(text, used, place.lines);
+        return place;
+    }
+    let end = bytes_within(place.length, line);
+    if fields::is_blank(&line[..end]) {
+        return place;
+    }
+    answer(&line[..end], place, state, journal, text, used)
+}
+
+// A line has ended: it counts, and the next one begins.
+fn end_line(
+    place: Place,
+    line: &LineBytes,
+    state: &mut State,
+    journal: &mut Words,
+    text: &mut Text,
+    used: &mut usize,
+) -> Place {
+    let mut counted = place;
+    counted.lines = std::num::wrapping_add_u64(place.lines, 1);
+    let mut next = answer_line(line, counted, state, journal, text, used);
+    next.length = 0;
+    next
+}
+
+// A byte of the input: the line's end, or one more of the line, kept while it fits.
+fn take_byte(
+    b: u8,
+    place: Place,
+    line: &mut LineBytes,
+    state: &mut State,
+    journal: &mut Words,
+    text: &mut Text,
+    used: &mut usize,
+) -> Place {
+    if b == b'\n' {
+        return end_line(place, line, state, journal, text, used);
+    }
+    let at = place.length;
+    let mut next = place;
+    if at < LONGEST {
+        line[at] = b;
+        next.length = at + 1;
+    } else {
+        next.length = LONGEST + 1;
+    }
+    next
+}
+
+fn take_piece(
+    piece: &[u8],
+    place: Place,
+    line: &mut LineBytes,
+    state: &mut State,
+    journal: &mut Words,
+    text: &mut Text,
+    used: &mut usize,
+) -> Place {
+    let mut next = place;
+    let mut i: usize = 0;
+    while i < piece.len() {
+        next = take_byte(piece[i], next, line, state, journal, text, used);
+        i += 1;
+    }
+    next
+}
+
+// One read of standard input: the count of bytes, 0 at its end.
+fn read(input: &mut [u8]) -> usize
+    ensures { λ r. ⌜ Counts r (now (input .exit)) ⌝ }
+{
+    let got = libc::read(STDIN_FILENO, input);
+    io::count(got, input)
+}
+
+// Answers the list until the input ends. What was read is answered before the next read. The count of reads only lets the loop be proved to end.
+pub fn run() {
+    let mut input = [0u8; 65536];
+    let mut text = [0u8; 65536];
+    let mut line = [0u8; LONGEST];
+    let mut journal = [0u64; WORDS];
+    let mut state = [0u64; 191];
+    let mut used: usize = 0;
+    let mut place = Place {
+        length: 0,
+        lines: 0,
+        journal: 128,
+        output: 672,
+    };
+    let mut reads: u64 = 18446744073709551615;
+    while 0 < reads {
+        let count = read(&mut input);
+        if count == 0 {
+            break;
+        }
+        place = take_piece(
+            &input[..count],
+            place,
+            &mut line,
+            &mut state,
+            &mut journal,
+            &mut text,
+            &mut used,
+        );
+        output::flush(&text, &mut used);
+        reads -= 1;
+    }
+    end_line(place, &line, &mut state, &mut journal, &mut text, &mut used);
+    output::flush(&text, &mut used);
+}

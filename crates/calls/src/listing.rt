@@ -1,0 +1,93 @@
+// What a state holds, as text: channels with their live services, blocks, the removal, the last entry number.
+ghost use Prim.Native.Nat.{_<_};
+use lines::output;
+use lines::output::Text;
+use lines::parts::lower;
+use model::State;
+
+// Service k = channel * 4 + service of the sixteen, if it is not idle.
+fn put_service(text: &mut Text, used: &mut usize, state: &State, service: u64, k: usize)
+    requires { ⌜ k < 16 ⌝ }
+{
+    let stage = state::stage_of(state, k);
+    if stage == 0 {
+        return;
+    }
+    output::put(text, used, b"service");
+    output::put_decimal(text, used, service);
+    if stage == 1 {
+        output::put(text, used, b" offered");
+        output::put_decimal(text, used, state::handle_of(state, k));
+    } else {
+        output::put(text, used, b" registered");
+        output::put_decimal(text, used, state::handle_of(state, k));
+        output::put_decimal(text, used, state::minor_of(state, k));
+    }
+    output::put_byte(text, used, b'\n');
+}
+
+fn put_channel(text: &mut Text, used: &mut usize, state: &State, channel: usize)
+    requires { ⌜ channel < 4 ⌝ }
+{
+    output::put(text, used, b"channel");
+    output::put_decimal(text, used, channel as u64);
+    if state::is_ready(state, channel) {
+        output::put(text, used, b" ready\n");
+    } else {
+        output::put(text, used, b" closed\n");
+    }
+    put_service(text, used, state, 0, channel * 4);
+    put_service(text, used, state, 1, channel * 4 + 1);
+    put_service(text, used, state, 2, channel * 4 + 2);
+    put_service(text, used, state, 3, channel * 4 + 3);
+}
+
+fn put_block(text: &mut Text, used: &mut usize, state: &State, i: usize)
+    requires { ⌜ i < 16 ⌝ }
+{
+    output::put(text, used, b"block");
+    output::put_decimal(text, used, i as u64);
+    if state::configured_of(state, i) == 1 {
+        output::put(text, used, b" configured\n");
+    } else {
+        output::put(text, used, b" unconfigured\n");
+    }
+}
+
+fn put_blocks(text: &mut Text, used: &mut usize, state: &State) {
+    let count = lower(state::blocks_of(state), 16);
+    let mut i: usize = 0;
+    while i < count {
+        put_block(text, used, state, i);
+        i += 1;
+    }
+}
+
+// An outstanding removal: the record at its position, and the pages collected.
+fn put_removal(text: &mut Text, used: &mut usize, state: &State) {
+    if !state::is_outstanding(state) {
+        return;
+    }
+    let removal = state::load_removal(state);
+    if removal.cancelled {
+        output::put(text, used, b"removal cancelled record");
+    } else {
+        output::put(text, used, b"removal open record");
+    }
+    output::put_decimal(text, used, removal.position);
+    output::put(text, used, b" pages");
+    output::put_decimal(text, used, removal.collected);
+    output::put_byte(text, used, b'\n');
+}
+
+pub fn put_state(text: &mut Text, used: &mut usize, state: &State) {
+    put_channel(text, used, state, 0);
+    put_channel(text, used, state, 1);
+    put_channel(text, used, state, 2);
+    put_channel(text, used, state, 3);
+    put_blocks(text, used, state);
+    put_removal(text, used, state);
+    output::put(text, used, b"entries");
+    output::put_decimal(text, used, state::last_of(state));
+    output::put_byte(text, used, b'\n');
+}

@@ -1,0 +1,206 @@
+// The calls that a line's fields ask for, made of the agent and answered. Each answers false, and does nothing, where the fields are bad.
+// `rest` is the line from the end of its name on: each field begins with its space.
+use crate::answers;
+use crate::answers::RUN_WORDS;
+use crate::listing;
+use lines::fields;
+use lines::fields::Number;
+use lines::fields::Read;
+use lines::output::Text;
+use lines::parts::bytes_within;
+use lines::parts::words_within;
+use model::State;
+
+// A line of at most 32,768 bytes has no more than 16,384 words and no more than 16,384 bytes.
+const MOST: usize = 16384;
+
+// One or two numbers, `count` in all (the second 0 where one is asked for), or not that.
+pub enum Numbers {
+    Are(u64, u64),
+    Bad,
+}
+
+// The numbers of all fields, at the start of the list.
+fn words_in(rest: &[u8], list: &mut [u64]) -> Read {
+    let mut at: usize = 0;
+    let mut count: usize = 0;
+    while at < rest.len() {
+        let end = fields::end_of(rest, at + 1);
+        let Number::Value(n) = fields::number_in(&rest[at + 1..end]) else {
+            return Read::Bad;
+        };
+        if list.len() <= count {
+            return Read::Bad;
+        }
+        list[count] = n;
+        count += 1;
+        at = end;
+    }
+    Read::Count(count)
+}
+
+pub fn exactly(count: usize, rest: &[u8]) -> Numbers {
+    let mut two = [0u64; 2];
+    let Read::Count(found) = words_in(rest, &mut two) else {
+        return Numbers::Bad;
+    };
+    if found != count {
+        return Numbers::Bad;
+    }
+    Numbers::Are(two[0], two[1])
+}
+
+// A channel, and the bytes after it at the start of the message.
+fn channel_and_bytes(rest: &[u8], message: &mut [u8]) -> Numbers {
+    if rest.len() == 0 {
+        return Numbers::Bad;
+    }
+    let end = fields::end_of(rest, 1);
+    let Number::Value(channel) = fields::number_in(&rest[1..end]) else {
+        return Numbers::Bad;
+    };
+    if end == rest.len() {
+        return Numbers::Are(channel, 0);
+    }
+    let Read::Count(count) = fields::bytes_in(&rest[end + 1..], message) else {
+        return Numbers::Bad;
+    };
+    Numbers::Are(channel, count as u64)
+}
+
+pub fn setup(rest: &[u8], state: &mut State, text: &mut Text, used: &mut usize) -> bool {
+    let mut list = [0u64; MOST];
+    let Read::Count(count) = words_in(rest, &mut list) else {
+        return false;
+    };
+    let end = words_within(count, &list);
+    let started = agent::setup(&list[..end]);
+    let made = started.state;
+    *state = made;
+    answers::started(text, used, started.refusal);
+    true
+}
+
+pub fn receive(
+    rest: &[u8],
+    state: &mut State,
+    journal: &mut [u64],
+    out: &mut [u8],
+    text: &mut Text,
+    used: &mut usize,
+) -> bool {
+    let mut message = [0u8; MOST];
+    let Numbers::Are(channel, count) = channel_and_bytes(rest, &mut message) else {
+        return false;
+    };
+    let end = bytes_within(count as usize, &message);
+    let a = agent::receive(state, channel as usize, &message[..end], journal, out);
+    answers::answered(text, used, b"receive", a, out);
+    true
+}
+
+pub fn show(rest: &[u8], state: &State, text: &mut Text, used: &mut usize) -> bool {
+    let mut message = [0u8; MOST];
+    let Numbers::Are(channel, count) = channel_and_bytes(rest, &mut message) else {
+        return false;
+    };
+    let end = bytes_within(count as usize, &message);
+    answers::shown(
+        text,
+        used,
+        agent::show(state, channel as usize, &message[..end]),
+    );
+    true
+}
+
+pub fn offer(
+    rest: &[u8],
+    state: &mut State,
+    journal: &mut [u64],
+    out: &mut [u8],
+    text: &mut Text,
+    used: &mut usize,
+) -> bool {
+    let Numbers::Are(channel, service) = exactly(2, rest) else {
+        return false;
+    };
+    let a = agent::offer(state, channel as usize, service as usize, journal, out);
+    answers::answered(text, used, b"offer", a, out);
+    true
+}
+
+pub fn withdraw(
+    rest: &[u8],
+    state: &mut State,
+    journal: &mut [u64],
+    out: &mut [u8],
+    text: &mut Text,
+    used: &mut usize,
+) -> bool {
+    let Numbers::Are(channel, service) = exactly(2, rest) else {
+        return false;
+    };
+    let a = agent::withdraw(state, channel as usize, service as usize, journal, out);
+    answers::answered(text, used, b"withdraw", a, out);
+    true
+}
+
+pub fn close(
+    rest: &[u8],
+    state: &mut State,
+    journal: &mut [u64],
+    out: &mut [u8],
+    text: &mut Text,
+    used: &mut usize,
+) -> bool {
+    let Numbers::Are(channel, _) = exactly(1, rest) else {
+        return false;
+    };
+    let a = agent::close(state, channel as usize, journal, out);
+    answers::answered(text, used, b"close", a, out);
+    true
+}
+
+pub fn work(
+    rest: &[u8],
+    state: &mut State,
+    journal: &mut [u64],
+    out: &mut [u8],
+    text: &mut Text,
+    used: &mut usize,
+) -> bool {
+    let Numbers::Are(budget, _) = exactly(1, rest) else {
+        return false;
+    };
+    let a = agent::work(state, budget, journal, out);
+    answers::worked(text, used, a, out);
+    true
+}
+
+pub fn drain(
+    rest: &[u8],
+    state: &mut State,
+    journal: &[u64],
+    text: &mut Text,
+    used: &mut usize,
+) -> bool {
+    let Numbers::Are(words, _) = exactly(1, rest) else {
+        return false;
+    };
+    if (RUN_WORDS as u64) < words {
+        return false;
+    }
+    let mut run = [0u64; RUN_WORDS];
+    let end = words_within(words as usize, &run);
+    let a = agent::drain(state, journal, &mut run[..end]);
+    answers::drained(text, used, a, &run);
+    true
+}
+
+pub fn state(rest: &[u8], state: &State, text: &mut Text, used: &mut usize) -> bool {
+    if rest.len() != 0 {
+        return false;
+    }
+    listing::put_state(text, used, state);
+    true
+}

@@ -1,0 +1,180 @@
+// The fields of a line: names, numbers and bytes.
+ghost use Prim.Native.Nat.{_≤_};
+ghost use lib.ListN.{length};
+ghost use Rattle.io.specs.Counts.{Counts};
+
+// A number below 2^64, or no number.
+pub enum Number {
+    Value(u64),
+    Bad,
+}
+
+// A count of things read into a lent run, or none because a field is bad.
+pub enum Read {
+    Count(usize),
+    Bad,
+}
+
+fn wide(b: u8) -> u64 {
+    b as u64
+}
+
+// The value of a hexadecimal digit of either case, or 16.
+fn digit(b: u8) -> u8 {
+    if b'0' <= b && b <= b'9' {
+        return b - b'0';
+    }
+    if b'a' <= b && b <= b'f' {
+        return b - b'a' + 10;
+    }
+    if b'A' <= b && b <= b'F' {
+        return b - b'A' + 10;
+    }
+    16
+}
+
+// The number with one decimal digit more, if that is one and it stays below 2^64.
+fn with_decimal(value: u64, b: u8) -> Number {
+    let d = wide(digit(b));
+    if 9 < d {
+        return Number::Bad;
+    }
+    if 1844674407370955161 < value {
+        return Number::Bad;
+    }
+    let tens = value * 10;
+    if 18446744073709551615 - tens < d {
+        return Number::Bad;
+    }
+    Number::Value(tens + d)
+}
+
+// The number with one hexadecimal digit more.
+fn with_hexadecimal(value: u64, b: u8) -> Number {
+    let d = wide(digit(b));
+    if 15 < d {
+        return Number::Bad;
+    }
+    if 1152921504606846975 < value {
+        return Number::Bad;
+    }
+    Number::Value(value * 16 + d)
+}
+
+fn with_digit(hexadecimal: bool, value: u64, b: u8) -> Number {
+    if hexadecimal {
+        return with_hexadecimal(value, b);
+    }
+    with_decimal(value, b)
+}
+
+// One or more digits.
+fn digits(hexadecimal: bool, field: &[u8]) -> Number {
+    if field.len() == 0 {
+        return Number::Bad;
+    }
+    let mut value: u64 = 0;
+    let mut i: usize = 0;
+    while i < field.len() {
+        let Number::Value(more) = with_digit(hexadecimal, value, field[i]) else {
+            return Number::Bad;
+        };
+        value = more;
+        i += 1;
+    }
+    Number::Value(value)
+}
+
+// A number in decimal, or with 0x in hexadecimal.
+pub fn number_in(field: &[u8]) -> Number {
+    if field.len() < 2 {
+        return digits(false, field);
+    }
+    if field[0] == b'0' && field[1] == b'x' {
+        return digits(true, &field[2..]);
+    }
+    digits(false, field)
+}
+
+// The byte of two hexadecimal digits.
+fn pair(high: u8, low: u8) -> Number {
+    let h = digit(high);
+    let l = digit(low);
+    if 15 < h {
+        return Number::Bad;
+    }
+    if 15 < l {
+        return Number::Bad;
+    }
+    Number::Value(wide(h * 16 + l))
+}
+
+// The bytes that a field's digits give, at the start of a lent run that they fit.
+pub fn bytes_in(field: &[u8], into: &mut [u8]) -> Read {
+    let count = field.len() / 2;
+    if field.len() == 0 || field.len() % 2 != 0 {
+        return Read::Bad;
+    }
+    if into.len() < count {
+        return Read::Bad;
+    }
+    let mut i: usize = 0;
+    while i < count {
+        let Number::Value(b) = pair(field[i * 2], field[i * 2 + 1]) else {
+            return Read::Bad;
+        };
+        into[i] = (b % 256) as u8;
+        i += 1;
+    }
+    Read::Count(count)
+}
+
+// Where the field that begins at `from` ends: the next space, or the line's end.
+pub fn end_of(line: &[u8], from: usize) -> usize
+    requires { ⌜ from ≤ length (now line) ⌝ }
+    ensures { λ r. ⌜ from ≤ r ⌝ }
+    ensures { λ r. ⌜ Counts r (now (line .entry)) ⌝ }
+{
+    let mut i = from;
+    while i < line.len() {
+        if line[i] == b' ' {
+            return i;
+        }
+        i += 1;
+    }
+    i
+}
+
+// The line begins with #.
+pub fn is_comment(line: &[u8]) -> bool {
+    if line.len() == 0 {
+        return false;
+    }
+    line[0] == b'#'
+}
+
+// All bytes are spaces.
+pub fn is_blank(line: &[u8]) -> bool {
+    let mut i: usize = 0;
+    while i < line.len() {
+        if line[i] != b' ' {
+            return false;
+        }
+        i += 1;
+    }
+    true
+}
+
+pub fn same(a: &[u8], b: &[u8]) -> bool {
+    if a.len() != b.len() {
+        return false;
+    }
+    let mut i: usize = 0;
+    while i < a.len() {
+        if a[i] != b[i] {
+            return false;
+        }
+        i += 1;
+    }
+    true
+}

@@ -1,0 +1,31 @@
+// Ends of the front part of a run: `count`, or the run's length where that is less.
+ghost use Prim.Native.Nat.{_≤_};
+ghost use Rattle.io.specs.Counts.{Counts};
+
+pub fn bytes_within(count: usize, run: &[u8]) -> usize
+    ensures { λ r. ⌜ Counts r (now (run .entry)) ⌝ }
+{
+    if count < run.len() {
+        return count;
+    }
+    run.len()
+}
+
+pub fn words_within(count: usize, run: &[u64]) -> usize
+    ensures { λ r. ⌜ Counts r (now (run .entry)) ⌝ }
+{
+    if count < run.len() {
+        return count;
+    }
+    run.len()
+}
+
+// The lower of two numbers.
+pub fn lower(a: usize, b: usize) -> usize
+    ensures { λ r. ⌜ r ≤ b ⌝ }
+{
+    if a < b {
+        return a;
+    }
+    b
+}
