@@ -1,0 +1,51 @@
+//! The independent agent of rust/. No call is inlined, since none of the
+//! static library's is.
+
+use crate::Agent;
+
+pub struct Independent;
+
+impl Agent for Independent {
+    type State = independent::State;
+
+    fn setup(list: &[u64]) -> Result<Self::State, u64> {
+        independent::setup(list)
+    }
+
+    #[inline(never)]
+    fn receive(
+        state: &mut Self::State,
+        channel: u64,
+        message: &[u8],
+        journal: &mut [u64],
+        out: &mut [u8],
+    ) -> Result<usize, u64> {
+        independent::receive(state, channel, message, journal, out)
+    }
+
+    fn offer(
+        state: &mut Self::State,
+        channel: u64,
+        service: u64,
+        journal: &mut [u64],
+        out: &mut [u8],
+    ) -> Result<usize, u64> {
+        independent::offer(state, channel, service, journal, out)
+    }
+
+    #[inline(never)]
+    fn work(
+        state: &mut Self::State,
+        budget: u64,
+        journal: &mut [u64],
+        out: &mut [u8],
+    ) -> Result<(u64, usize), u64> {
+        let worked = independent::work(state, budget, journal, out)?;
+        Ok((worked.pages, worked.length))
+    }
+
+    #[inline(never)]
+    fn drain(state: &mut Self::State, journal: &[u64], run: &mut [u64]) -> Result<usize, u64> {
+        independent::drain(state, journal, run)
+    }
+}

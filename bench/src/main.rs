@@ -1,0 +1,257 @@
+//! Nanoseconds a call of the proved agent beside the independent Rust agent:
+//! one run, the same lists of calls, optimised builds. No buffer is cleared
+//! between calls. A round makes a batch of calls from a saved state, which is
+//! copied back outside the time taken; the two agents take turns, and the
+//! fastest round of each counts.
+
+mod independent_agent;
+mod proved;
+
+use independent_agent::Independent;
+use proved::Proved;
+use std::hint::black_box;
+use std::time::Instant;
+
+const ROUNDS: usize = 4000;
+const BLOCKS: u64 = 16;
+const BLOCK_BYTES: u64 = 1 << 33;
+const QUERY: u32 = 0x4d51;
+const UNCONFIGURE: u32 = 0x4d55;
+const BATCH: usize = 48;
+
+/// The calls that are timed, and those that lead to them.
+pub trait Agent {
+    type State: Copy;
+    fn setup(list: &[u64]) -> Result<Self::State, u64>;
+    fn receive(
+        state: &mut Self::State,
+        channel: u64,
+        message: &[u8],
+        journal: &mut [u64],
+        out: &mut [u8],
+    ) -> Result<usize, u64>;
+    fn offer(
+        state: &mut Self::State,
+        channel: u64,
+        service: u64,
+        journal: &mut [u64],
+        out: &mut [u8],
+    ) -> Result<usize, u64>;
+    fn work(
+        state: &mut Self::State,
+        budget: u64,
+        journal: &mut [u64],
+        out: &mut [u8],
+    ) -> Result<(u64, usize), u64>;
+    fn drain(state: &mut Self::State, journal: &[u64], run: &mut [u64]) -> Result<usize, u64>;
+}
+
+/// A state and the journal and output that its calls are lent.
+struct Host<A: Agent> {
+    state: A::State,
+    journal: [u64; 128],
+    out: [u8; 672],
+    run: [u64; 128],
+}
+
+fn ds_message(ds_type: u32, payload: &[u8]) -> Vec<u8> {
+    let mut message = ds_type.to_be_bytes().to_vec();
+    message.extend((payload.len() as u32).to_be_bytes());
+    message.extend(payload);
+    message
+}
+
+/// A memory request for the first `count` of every `16 / count`-th block.
+fn request(memory_type: u32, count: u64, handle: u64) -> Vec<u8> {
+    let mut payload = handle.to_be_bytes().to_vec();
+    payload.extend(memory_type.to_be_bytes());
+    payload.extend((count as u32).to_be_bytes());
+    payload.extend(7u64.to_be_bytes());
+    for record in 0..count {
+        let block = (record + 1) * (BLOCKS / count) - 1;
+        payload.extend((block * BLOCK_BYTES).to_be_bytes());
+        payload.extend(BLOCK_BYTES.to_be_bytes());
+    }
+    ds_message(9, &payload)
+}
+
+impl<A: Agent> Host<A> {
+    /// 16 configured blocks of 1,048,576 pages, one page of each permanent but
+    /// for the last; `channels` channels with four services registered each.
+    fn new(channels: u64) -> Self {
+        let mut list = Vec::new();
+        for block in 0..BLOCKS {
+            let permanent = u64::from(block + 1 < BLOCKS);
+            list.extend([block * BLOCK_BYTES, 1 << 20, 0, permanent, 1]);
+        }
+        let mut host = Host {
+            state: A::setup(&list).expect("the block list is accepted"),
+            journal: [0; 128],
+            out: [0; 672],
+            run: [0; 128],
+        };
+        for channel in 0..channels {
+            host.register(channel);
+        }
+        host.drain_all();
+        host
+    }
+
+    /// INIT_REQ 1.0, then each service offered and acknowledged.
+    fn register(&mut self, channel: u64) {
+        self.receive(channel, &ds_message(0, &[0, 1, 0, 0]));
+        for service in 0..4 {
+            let length = A::offer(&mut self.state, channel, service, &mut self.journal, &mut self.out);
+            length.expect("the offer is accepted");
+            let mut payload = self.out[8..16].to_vec();
+            payload.extend([0, 0]);
+            self.receive(channel, &ds_message(4, &payload));
+        }
+    }
+
+    fn receive(&mut self, channel: u64, message: &[u8]) {
+        let length = A::receive(&mut self.state, channel, message, &mut self.journal, &mut self.out);
+        black_box(length).expect("the message is accepted");
+    }
+
+    fn work(&mut self) {
+        let worked = A::work(&mut self.state, 1, &mut self.journal, &mut self.out);
+        black_box(worked).expect("the step is accepted");
+    }
+
+    fn drain(&mut self, words: usize) {
+        let drained = A::drain(&mut self.state, &self.journal, &mut self.run[..words]);
+        black_box(drained).expect("the drain is accepted");
+    }
+
+    fn drain_all(&mut self) {
+        self.drain(128);
+    }
+
+    /// What the two agents must agree on after a batch.
+    fn seen(&self) -> (Vec<u64>, Vec<u8>, Vec<u64>) {
+        (self.journal.to_vec(), self.out.to_vec(), self.run.to_vec())
+    }
+}
+
+/// A case: how a host is made ready, the calls of one batch, and how many they are.
+struct Case {
+    name: String,
+    channels: u64,
+    prepare: Prepare,
+    calls: Calls,
+}
+
+enum Prepare {
+    Nothing,
+    /// A removal of the last block begins.
+    Removal,
+    /// 64 entries are held.
+    Full,
+}
+
+enum Calls {
+    Query(u64),
+    Work,
+    DrainOne,
+    DrainFull,
+}
+
+impl Case {
+    fn host<A: Agent>(&self) -> Host<A> {
+        let mut host = Host::<A>::new(self.channels);
+        match self.prepare {
+            Prepare::Nothing => {}
+            Prepare::Removal => host.receive(0, &request(UNCONFIGURE, 1, 2)),
+            Prepare::Full => {
+                for _ in 0..64 {
+                    host.receive(0, &request(QUERY, 1, 2));
+                }
+            }
+        }
+        host
+    }
+
+    /// One batch: the calls made.
+    fn batch<A: Agent>(&self, host: &mut Host<A>, query: &[u8]) -> usize {
+        match self.calls {
+            Calls::Query(_) => (0..BATCH).for_each(|_| host.receive(0, query)),
+            Calls::Work => (0..BATCH).for_each(|_| host.work()),
+            Calls::DrainOne => (0..BATCH).for_each(|_| host.drain(2)),
+            Calls::DrainFull => {
+                host.drain(128);
+                return 1;
+            }
+        }
+        BATCH
+    }
+
+    /// The fastest round's nanoseconds a call, beside the least that it has so far.
+    fn round<A: Agent>(&self, host: &mut Host<A>, query: &[u8], least: f64) -> f64 {
+        let saved = host.state;
+        let begin = Instant::now();
+        let calls = self.batch(host, query);
+        let nanoseconds = begin.elapsed().as_nanos() as f64 / calls as f64;
+        host.state = saved;
+        least.min(nanoseconds)
+    }
+
+    fn run(&self) {
+        let records = match self.calls {
+            Calls::Query(records) => records,
+            _ => 1,
+        };
+        let query = request(QUERY, records, 2);
+        let mut ours = self.host::<Proved>();
+        let mut theirs = self.host::<Independent>();
+        let (mut least, mut least_theirs) = (f64::MAX, f64::MAX);
+        for _ in 0..ROUNDS {
+            least = self.round(&mut ours, &query, least);
+            least_theirs = self.round(&mut theirs, &query, least_theirs);
+        }
+        assert_eq!(ours.seen(), theirs.seen(), "{}: the agents differ", self.name);
+        println!(
+            "{:<34} {:>10.1} {:>12.1} {:>8.2}",
+            self.name,
+            least,
+            least_theirs,
+            least / least_theirs
+        );
+    }
+}
+
+fn cases() -> Vec<Case> {
+    let mut cases = Vec::new();
+    for channels in [1, 4] {
+        for records in [1, 4, 16] {
+            cases.push(Case {
+                name: format!("QUERY of {records}, {} live handles", channels * 4),
+                channels,
+                prepare: Prepare::Nothing,
+                calls: Calls::Query(records),
+            });
+        }
+    }
+    let others = [
+        ("work step, 1 page collected", Prepare::Removal, Calls::Work),
+        ("drain of 1 entry", Prepare::Full, Calls::DrainOne),
+        ("drain of 64 entries", Prepare::Full, Calls::DrainFull),
+    ];
+    for (name, prepare, calls) in others {
+        cases.push(Case {
+            name: name.to_string(),
+            channels: 1,
+            prepare,
+            calls,
+        });
+    }
+    cases
+}
+
+fn main() {
+    println!(
+        "{:<34} {:>10} {:>12} {:>8}",
+        "ns a call", "proved", "independent", "ratio"
+    );
+    cases().iter().for_each(Case::run);
+}

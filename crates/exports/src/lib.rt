@@ -1,0 +1,104 @@
+// The public calls under names for C and Rust to link: each is the agent's own call, with its contract.
+use model::Answer;
+use model::Drained;
+use model::Started;
+use model::State;
+use model::Worked;
+ghost use Rattle.model.specs.Step.{
+  SetupPost,
+  ReceivePost,
+  OfferPost,
+  WithdrawPost,
+  ClosePost,
+  WorkPost,
+  DrainPost,
+};
+ghost use Rattle.model.specs.Calls.{shown};
+ghost use lib.ListN.{length};
+ghost use mathlib.Core.Path.{_≡_};
+
+#[no_mangle]
+pub extern "C" fn arkelutz_setup(list: &[u64]) -> Started
+    ensures { λ r. ⌜ SetupPost (now (list .entry)) r ⌝ }
+{
+    agent::setup(list)
+}
+
+#[no_mangle]
+pub extern "C" fn arkelutz_receive(
+    state: &mut State,
+    channel: usize,
+    message: &[u8],
+    journal: &mut [u64],
+    out: &mut [u8],
+) -> Answer
+    ensures { λ r. ⌜ ReceivePost (now (state .entry)) (now (journal .entry)) channel (now (message .entry)) (now (out .entry)) r (now (state .exit)) (now (journal .exit)) (now (out .exit)) ⌝ }
+{
+    agent::receive(state, channel, message, journal, out)
+}
+
+#[no_mangle]
+pub extern "C" fn arkelutz_offer(
+    state: &mut State,
+    channel: usize,
+    service: usize,
+    journal: &mut [u64],
+    out: &mut [u8],
+) -> Answer
+    ensures { λ r. ⌜ OfferPost (now (state .entry)) (now (journal .entry)) channel service (now (out .entry)) r (now (state .exit)) (now (journal .exit)) (now (out .exit)) ⌝ }
+{
+    agent::offer(state, channel, service, journal, out)
+}
+
+#[no_mangle]
+pub extern "C" fn arkelutz_withdraw(
+    state: &mut State,
+    channel: usize,
+    service: usize,
+    journal: &mut [u64],
+    out: &mut [u8],
+) -> Answer
+    ensures { λ r. ⌜ WithdrawPost (now (state .entry)) (now (journal .entry)) channel service (now (out .entry)) r (now (state .exit)) (now (journal .exit)) (now (out .exit)) ⌝ }
+{
+    agent::withdraw(state, channel, service, journal, out)
+}
+
+#[no_mangle]
+pub extern "C" fn arkelutz_close(
+    state: &mut State,
+    channel: usize,
+    journal: &mut [u64],
+    out: &mut [u8],
+) -> Answer
+    ensures { λ r. ⌜ ClosePost (now (state .entry)) (now (journal .entry)) channel (now (out .entry)) r (now (state .exit)) (now (journal .exit)) (now (out .exit)) ⌝ }
+{
+    agent::close(state, channel, journal, out)
+}
+
+#[no_mangle]
+pub extern "C" fn arkelutz_work(
+    state: &mut State,
+    budget: u64,
+    journal: &mut [u64],
+    out: &mut [u8],
+) -> Worked
+    ensures { λ r. ⌜ WorkPost (now (state .entry)) (now (journal .entry)) budget (now (out .entry)) r (now (state .exit)) (now (journal .exit)) (now (out .exit)) ⌝ }
+{
+    agent::work(state, budget, journal, out)
+}
+
+#[no_mangle]
+pub extern "C" fn arkelutz_drain(state: &mut State, journal: &[u64], run: &mut [u64]) -> Drained
+    ensures { λ r. ⌜ DrainPost (now (state .entry)) (now (journal .entry)) (now (run .entry)) r (now (state .exit)) (now (journal .entry)) (now (run .exit)) ⌝ }
+{
+    agent::drain(state, journal, run)
+}
+
+// C has no parts of slices: the length of the part that show gives. A part that is not empty begins at byte 16 of the message.
+#[no_mangle]
+pub extern "C" fn arkelutz_show(state: &State, channel: usize, message: &[u8]) -> usize
+    ensures { λ r. ⌜ r ≡ length (shown (now (state .entry)) channel (now (message .entry))) ⌝ }
+{
+    let part = agent::show(state, channel, message);
+    part.len()
+}

@@ -1,0 +1,372 @@
+//! What a list of calls reached, counted from the input and a host's output.
+
+use crate::lines::{Call, Line};
+use crate::memory::{self, QUERY_BYTES, RECORDS_START, RESULT_BYTES};
+use crate::wire::{self, get32, get64};
+use std::collections::BTreeMap;
+use std::fmt::{self, Display, Formatter};
+
+/// The counts that any long list of calls must reach, as groups of members.
+const MUST_REACH: [(&str, &str); 24] = [
+    ("call setup", "accepted, refused"),
+    ("call receive", "accepted, refused"),
+    ("call offer", "accepted, refused"),
+    ("call withdraw", "accepted, refused"),
+    ("call close", "accepted, refused"),
+    ("call work", "accepted, refused"),
+    ("call drain", "accepted, refused"),
+    ("call show", "part, empty"),
+    ("refusal 1", "receive, offer, withdraw, close, work, drain"),
+    ("refusal 2", "receive, offer, withdraw, close, work"),
+    ("refusal 3", "receive, offer, withdraw, close, work"),
+    ("refusal 4", "receive, offer, withdraw, close, work"),
+    ("refusal 6", "offer, withdraw, work"),
+    ("refusal 7", "setup"),
+    (
+        "entry kind",
+        " 1,  2,  3,  4,  5,  6,  7,  8,  9, 10, 11, 12, 13, 14, 15, 16, 17",
+    ),
+    (
+        "entry code",
+        "10/0, 10/1, 10/2, 15/0, 15/4, 16/0, 16/1, 16/3, 16/5",
+    ),
+    ("entry end", "with reply, without reply"),
+    (
+        "DS received",
+        "INIT_ACK bad, INIT_NACK bad, other type bad, under 8 bytes bad",
+    ),
+    (
+        "DS sent",
+        "INIT_ACK, INIT_NACK, REG_REQ, REG_NACK, UNREG, UNREG_ACK, UNREG_NACK, DATA, NACK",
+    ),
+    (
+        "memory received",
+        "UNCONFIGURE -> no reply, other type -> ERROR, under 16 bytes -> ERROR",
+    ),
+    ("memory sent", "OK of receive, ERROR of receive, OK of work"),
+    (
+        "result/status",
+        "0/1, 0/2, 1/0, 1/1, 1/2, 2/0, 2/1, 2/2, 3/0, 3/1, 3/2, 4/1, 4/2, 5/2",
+    ),
+    (
+        "QUERY record",
+        "none permanent, part permanent, wholly permanent, size 0",
+    ),
+    ("STATUS reply", "idle, open, total 0"),
+];
+
+/// The names of the counts that any long list of calls must reach.
+fn must_reach() -> Vec<String> {
+    let mut names = vec!["line bad".to_string()];
+    for (group, members) in MUST_REACH {
+        names.extend(
+            members
+                .split(", ")
+                .map(|member| format!("{group} {member}")),
+        );
+    }
+    for name in DS_GOOD {
+        names.extend(["good", "bad"].map(|form| format!("DS received {name} {form}")));
+    }
+    for name in REQUESTS {
+        let answers = ["OK", "ERROR", "NACK"];
+        names.extend(answers.map(|answer| format!("memory received {name} -> {answer}")));
+    }
+    names
+}
+
+/// The memory requests.
+const REQUESTS: [&str; 5] = ["CONFIGURE", "UNCONFIGURE", "STATUS", "CANCEL", "QUERY"];
+
+/// The types that can be well formed.
+const DS_GOOD: [&str; 9] = [
+    "INIT_REQ",
+    "REG_REQ",
+    "REG_ACK",
+    "REG_NACK",
+    "UNREG",
+    "UNREG_ACK",
+    "UNREG_NACK",
+    "DATA",
+    "NACK",
+];
+
+fn ds_name(ds_type: u32) -> &'static str {
+    match ds_type {
+        wire::INIT_REQ => "INIT_REQ",
+        wire::INIT_ACK => "INIT_ACK",
+        wire::INIT_NACK => "INIT_NACK",
+        wire::REG_REQ => "REG_REQ",
+        wire::REG_ACK => "REG_ACK",
+        wire::REG_NACK => "REG_NACK",
+        wire::UNREG => "UNREG",
+        wire::UNREG_ACK => "UNREG_ACK",
+        wire::UNREG_NACK => "UNREG_NACK",
+        wire::DATA => "DATA",
+        wire::NACK => "NACK",
+        _ => "other type",
+    }
+}
+
+fn memory_name(memory_type: u32) -> &'static str {
+    match memory_type {
+        memory::CONFIGURE => "CONFIGURE",
+        memory::UNCONFIGURE => "UNCONFIGURE",
+        memory::UNCONF_STATUS => "STATUS",
+        memory::CANCEL => "CANCEL",
+        memory::QUERY => "QUERY",
+        memory::OK => "OK",
+        memory::ERROR => "ERROR",
+        _ => "other type",
+    }
+}
+
+/// Counts by name, and the refusals over made states by number.
+pub struct Counts {
+    listed: BTreeMap<String, u64>,
+    made: Option<[u64; 9]>,
+}
+
+impl Default for Counts {
+    fn default() -> Counts {
+        Counts {
+            listed: must_reach().into_iter().map(|name| (name, 0)).collect(),
+            made: None,
+        }
+    }
+}
+
+impl Counts {
+    fn add(&mut self, name: String) {
+        *self.listed.entry(name).or_default() += 1;
+    }
+
+    /// Counts an input line and the output lines that a host gave for it.
+    pub fn line(&mut self, line: &[u8], output: &[u8]) {
+        let output = String::from_utf8_lossy(output);
+        match Line::read(line) {
+            Line::PassedOver => self.add("line passed over".into()),
+            Line::Bad => self.add("line bad".into()),
+            Line::Call(call) => self.call(&call, &output),
+        }
+    }
+
+    fn call(&mut self, call: &Call, output: &str) {
+        let name = call.name();
+        let head = output.lines().next().unwrap_or_default();
+        let fields: Vec<&str> = head.split(' ').collect();
+        match (call, &fields[..]) {
+            (Call::Show(..), _) => {
+                let part = if fields.len() > 1 { "part" } else { "empty" };
+                self.add(format!("call show {part}"));
+            }
+            (Call::State | Call::Output(_) | Call::Journal(_), _) => {
+                self.add(format!("call {name}"))
+            }
+            (_, [_, "refused", number]) => {
+                self.add(format!("call {name} refused"));
+                self.add(format!("refusal {number} {name}"));
+            }
+            (_, [_, "accepted", rest @ ..]) => {
+                self.add(format!("call {name} accepted"));
+                self.accepted(call, rest);
+            }
+            _ => self.add(format!("call {name} with an odd answer")),
+        }
+        for entry in output
+            .lines()
+            .filter_map(|line| line.strip_prefix("entry "))
+        {
+            self.entry(entry);
+        }
+    }
+
+    /// An entry's kind, and the codes of the kinds that have some.
+    fn entry(&mut self, words: &str) {
+        let first = words.split(' ').next().unwrap_or_default();
+        let first = u64::from_str_radix(first, 16).unwrap_or(0);
+        let (kind, code) = (first >> 27 & 31, first >> 16 & 7);
+        self.add(format!("entry kind {kind:2}"));
+        if [10, 15, 16].contains(&kind) {
+            self.add(format!("entry code {kind}/{code}"));
+        }
+        if kind == 16 {
+            let sent = if first & 0xffff == 1 {
+                "with"
+            } else {
+                "without"
+            };
+            self.add(format!("entry end {sent} reply"));
+        }
+    }
+
+    /// The message received, and the reply sent.
+    fn accepted(&mut self, call: &Call, rest: &[&str]) {
+        let reply = match call {
+            Call::Drain(_) => return,
+            Call::Work(_) => rest.get(1),
+            _ => rest.first(),
+        };
+        let reply = bytes(reply.copied().unwrap_or_default());
+        if reply.len() >= 8 {
+            self.add(format!("DS sent {}", ds_name(get32(&reply, 0))));
+        }
+        match call {
+            Call::Receive(_, message) => self.received(message, &reply),
+            Call::Work(_) if reply.len() >= RECORDS_START => {
+                self.add(format!(
+                    "memory sent {} of work",
+                    memory_name(get32(&reply, 16))
+                ));
+                self.results(&reply);
+            }
+            _ => {}
+        }
+    }
+
+    fn received(&mut self, message: &[u8], reply: &[u8]) {
+        let good = wire::parse(message);
+        let name = match message.len() {
+            0..=7 => "under 8 bytes",
+            _ => ds_name(get32(message, 0)),
+        };
+        let form = if good.is_some() { "good" } else { "bad" };
+        self.add(format!("DS received {name} {form}"));
+        if let Some(wire::Message::Data { data, .. }) = good {
+            self.memory(data, reply);
+        }
+    }
+
+    /// A memory message by what was replied. Without a reply it was begun, or
+    /// was for the host, or the channel was closed.
+    fn memory(&mut self, data: &[u8], reply: &[u8]) {
+        let asked = match data.len() {
+            0..=15 => "under 16 bytes",
+            _ => memory_name(get32(data, 0)),
+        };
+        let replied = match reply.len() {
+            0 => "no reply",
+            _ if get32(reply, 0) == wire::NACK => "NACK",
+            _ => memory_name(get32(reply, 16)),
+        };
+        self.add(format!("memory received {asked} -> {replied}"));
+        if reply.len() < RECORDS_START {
+            return;
+        }
+        self.add(format!("memory sent {replied} of receive"));
+        match (asked, replied) {
+            ("CONFIGURE" | "UNCONFIGURE", "OK") => self.results(reply),
+            ("QUERY", "OK") => self.query(reply),
+            ("STATUS", "OK") => self.status(reply),
+            _ => {}
+        }
+    }
+
+    fn results(&mut self, reply: &[u8]) {
+        for record in reply[RECORDS_START..].chunks_exact(RESULT_BYTES) {
+            let (result, status) = (get32(record, 16), get32(record, 20));
+            self.add(format!("result/status {result}/{status}"));
+        }
+    }
+
+    fn query(&mut self, reply: &[u8]) {
+        for record in reply[RECORDS_START..].chunks_exact(QUERY_BYTES) {
+            let (size, permanent) = (get64(record, 8), get64(record, 16));
+            let name = match permanent {
+                _ if size == 0 => "size 0",
+                0 => "none permanent",
+                _ if permanent == size => "wholly permanent",
+                _ => "part permanent",
+            };
+            self.add(format!("QUERY record {name}"));
+        }
+    }
+
+    fn status(&mut self, reply: &[u8]) {
+        let name = match reply.len() {
+            RECORDS_START => "idle",
+            _ if get64(reply, RECORDS_START) == 0 => "total 0",
+            _ => "open",
+        };
+        self.add(format!("STATUS reply {name}"));
+    }
+
+    /// Counts the refusals of a text of output lines over made states.
+    pub fn made(&mut self, text: &str) {
+        let made = self.made.get_or_insert([0; 9]);
+        for line in text.lines() {
+            let number = line
+                .rsplit_once(" refused ")
+                .map(|(_, number)| number.parse());
+            if let Some(Ok(number @ 1..=8)) = number {
+                made[number as usize] += 1;
+            }
+        }
+    }
+
+    /// The refusals of one number in lists.
+    fn refusals(&self, number: usize) -> u64 {
+        let start = format!("refusal {number} ");
+        let named = self
+            .listed
+            .iter()
+            .filter(|(name, _)| name.starts_with(&start));
+        named.map(|(_, count)| count).sum()
+    }
+
+    /// The names of the counts that are zero and must not be.
+    pub fn zeros(&self) -> Vec<String> {
+        let listed = must_reach()
+            .into_iter()
+            .filter(|name| self.listed[name] == 0);
+        let made = self.made.iter().flat_map(|made| {
+            let zero = [5, 7, 8].into_iter().filter(|number| made[*number] == 0);
+            zero.map(|number| format!("made states: refusal {number}"))
+        });
+        listed.chain(made).collect()
+    }
+
+    /// All calls of lists, `state` not counted.
+    pub fn calls(&self) -> u64 {
+        let not = ["call state", "call output", "call journal"];
+        let calls = self
+            .listed
+            .iter()
+            .filter(|(name, _)| name.starts_with("call "));
+        calls
+            .filter(|(name, _)| !not.contains(&name.as_str()))
+            .map(|(_, count)| count)
+            .sum()
+    }
+}
+
+impl Display for Counts {
+    fn fmt(&self, text: &mut Formatter) -> fmt::Result {
+        for (name, count) in &self.listed {
+            writeln!(text, "{name:44} {count:>10}")?;
+        }
+        writeln!(
+            text,
+            "{:44} {:>10} {:>11}",
+            "refusals", "lists", "made states"
+        )?;
+        for number in 1..=8 {
+            let lists = self.refusals(number);
+            let made = match &self.made {
+                Some(made) => made[number].to_string(),
+                None => "-".to_string(),
+            };
+            writeln!(text, "refusal {number:<36} {lists:>10} {made:>11}")?;
+        }
+        Ok(())
+    }
+}
+
+/// The bytes that a line's hexadecimal digits stand for.
+fn bytes(digits: &str) -> Vec<u8> {
+    let digit = |byte: u8| char::from(byte).to_digit(16).unwrap_or(0);
+    let pairs = digits.as_bytes().chunks_exact(2);
+    pairs
+        .map(|pair| (digit(pair[0]) << 4 | digit(pair[1])) as u8)
+        .collect()
+}

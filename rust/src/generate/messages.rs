@@ -1,0 +1,362 @@
+//! Random messages: well-formed ones of every type, and damaged ones.
+
+use super::random::Random;
+use crate::block::{Block, Pair, PAGE};
+use crate::state::{Service, State, CHANNELS};
+use crate::{build, memory, wire};
+
+/// A live service: its channel, number, handle, and whether it is registered.
+#[derive(Clone, Copy)]
+pub struct Live {
+    pub channel: u64,
+    pub service: u64,
+    pub handle: u64,
+    pub registered: bool,
+}
+
+/// All live services.
+pub fn live(state: &State) -> Vec<Live> {
+    let mut all = Vec::new();
+    for (channel, services) in (0..).zip(state.channels.iter().map(|channel| channel.services)) {
+        for (service, held) in (0..).zip(services) {
+            all.extend(held.handle().map(|handle| Live {
+                channel,
+                service,
+                handle,
+                registered: matches!(held, Service::Registered { .. }),
+            }));
+        }
+    }
+    all
+}
+
+/// A random live service that `fits`.
+pub fn pick_live(random: &mut Random, state: &State, fits: impl Fn(&Live) -> bool) -> Option<Live> {
+    let fitting: Vec<Live> = live(state).into_iter().filter(fits).collect();
+    random.pick_any(&fitting)
+}
+
+/// A handle for a message on `channel`: live there, live elsewhere, old, or
+/// one that agrees with a live one in 32 bits only.
+pub fn handle(random: &mut Random, state: &State, channel: u64) -> u64 {
+    let kind = random.weighted(&[50, 10, 15, 8, 6, 6, 5]);
+    let here = kind == 0 || random.once_in(2);
+    let near = pick_live(random, state, |live| (live.channel == channel) == here)
+        .map_or(state.last, |live| live.handle);
+    match kind {
+        0 | 1 => near,
+        2 => random.between(0, state.last),
+        3 => near | random.pick(&[1 << 32, 1 << 63, 0xffff_ffff << 32, 7 << 32]),
+        4 => near << 32,
+        5 => near ^ random.between(1, 15),
+        _ => random.pick(&[0, u64::MAX, state.last + 1, 1 << 32, 0xffff_ffff]),
+    }
+}
+
+/// An id for REG_REQ with its zero, of 1 to 1,024 bytes; a few are bad.
+fn id(random: &mut Random) -> Vec<u8> {
+    let length = match random.weighted(&[70, 10, 10, 5, 5]) {
+        0 => random.between(2, 20),
+        1 => 1,
+        2 => random.between(21, 60),
+        3 => 1_024,
+        _ => random.pick(&[1_023, 1_025, 1_026]),
+    };
+    let mut id: Vec<u8> = (0..length).map(|_| random.between(1, 255) as u8).collect();
+    id[length as usize - 1] = 0;
+    match random.weighted(&[90, 5, 5]) {
+        0 => {}
+        1 => id[random.below(length) as usize] = 0,
+        _ => id[length as usize - 1] = b'x',
+    }
+    id
+}
+
+/// A message of a random type that is mostly well formed.
+pub fn any(random: &mut Random, state: &State, channel: u64) -> Vec<u8> {
+    let handle = handle(random, state, channel);
+    match random.below(10) {
+        0 => init_req(random),
+        1 => reg_req(random, handle),
+        2 | 3 => registration(random, handle),
+        4 => build::of_handle(wire::UNREG, handle),
+        5 | 6 => noted(random, handle),
+        7 => build::data(handle, &host_data(random)),
+        8 => {
+            let message = good_memory(random, state);
+            build::data(handle, &message)
+        }
+        _ => {
+            let message = bad_memory(random, state);
+            build::data(handle, &message)
+        }
+    }
+}
+
+pub fn init_req(random: &mut Random) -> Vec<u8> {
+    let major = random.pick(&[1, 1, 1, 1, 0, 2, 3, 0x100, 0xffff]);
+    build::init_req(major, random.pick(&[0, 0, 1, 0xffff]))
+}
+
+pub fn reg_req(random: &mut Random, handle: u64) -> Vec<u8> {
+    let id = id(random);
+    build::reg_req(handle, random.below(3) as u16, random.below(3) as u16, &id)
+}
+
+/// REG_ACK or REG_NACK.
+pub fn registration(random: &mut Random, handle: u64) -> Vec<u8> {
+    if random.once_in(3) {
+        return build::reg_nack(handle, random.between(0, 3), random.below(3) as u16);
+    }
+    build::reg_ack(handle, random.pick(&[0, 0, 1, 7, 0xffff]))
+}
+
+/// UNREG_ACK, UNREG_NACK or NACK.
+pub fn noted(random: &mut Random, handle: u64) -> Vec<u8> {
+    match random.below(3) {
+        0 => build::of_handle(wire::UNREG_ACK, handle),
+        1 => build::of_handle(wire::UNREG_NACK, handle),
+        _ => build::nack(handle, random.between(0, 4)),
+    }
+}
+
+/// Data for a service of the host: any bytes, now and then the longest.
+pub fn host_data(random: &mut Random) -> Vec<u8> {
+    let length = match random.weighted(&[60, 15, 20, 3, 2]) {
+        0 => random.between(1, 24),
+        1 => 0,
+        2 => random.between(25, 100),
+        3 => (wire::MAX_PAYLOAD - 8) as u64,
+        _ => random.between(101, 2_000),
+    };
+    random.bytes(length)
+}
+
+/// Types that a message may be given in place of its own.
+const WRONG_TYPES: [u32; 18] = [
+    0,
+    1,
+    1,
+    2,
+    2,
+    3,
+    4,
+    5,
+    6,
+    7,
+    8,
+    9,
+    10,
+    11,
+    12,
+    0x0900,
+    0x8000_0009,
+    0xffff_ffff,
+];
+
+/// A message spoilt in one way.
+pub fn damaged(random: &mut Random, state: &State, channel: u64) -> Vec<u8> {
+    let mut message = any(random, state, channel);
+    let length = message.len() as u64;
+    match random.weighted(&[20, 15, 20, 25, 6, 10, 4]) {
+        0 => message.truncate(random.below(length) as usize),
+        1 => {
+            let more = random.pick(&[1, 1, 2, 4, 8]);
+            message.extend(random.bytes(more));
+        }
+        2 => {
+            let payload = (length - 8) as u32;
+            let wrong = [
+                payload + 1,
+                payload.wrapping_sub(1),
+                0,
+                4_096,
+                4_097,
+                u32::MAX,
+                payload << 8,
+            ];
+            message[4..8].copy_from_slice(&random.pick(&wrong).to_be_bytes());
+        }
+        3 => {
+            let ds_type = random.pick(&WRONG_TYPES);
+            message[..4].copy_from_slice(&ds_type.to_be_bytes());
+        }
+        4 => {
+            let payload = random.pick(&[4_096, 4_097, 4_097, 4_104]);
+            message = build::ds(random.pick(&[3, 9, 9, 9]), &random.bytes(payload));
+        }
+        5 => {
+            let length = random.between(0, 40);
+            message = random.bytes(length);
+        }
+        _ => message = build::ds(wire::DATA, &vec![0x5a; random.pick(&[8_184, 8_183])]),
+    }
+    message
+}
+
+fn pair_of(block: &Block) -> Pair {
+    Pair {
+        addr: block.base,
+        size: block.pages * PAGE,
+    }
+}
+
+/// A pair that names a block, nearly names one, or is unknown.
+fn pair(random: &mut Random, state: &State) -> Pair {
+    let unknown = Pair {
+        addr: random.next() >> random.below(40) & !(PAGE - 1),
+        size: random.between(1, 1 << 20) * PAGE,
+    };
+    let blocks: Vec<Pair> = state.blocks.listed().iter().map(pair_of).collect();
+    let exact = random.pick_any(&blocks).unwrap_or(unknown);
+    let other = random.pick_any(&blocks).unwrap_or(unknown);
+    let Pair { addr, size } = exact;
+    let top = u64::MAX - random.below(1 << 20);
+    let (addr, size) = match random.weighted(&[60, 5, 4, 4, 8, 4, 5, 3, 3]) {
+        0 => return exact,
+        1 => (addr, size + PAGE),
+        2 => (addr, size - PAGE),
+        3 => (addr.wrapping_add(PAGE), size),
+        4 => return unknown,
+        5 => (random.pick(&[addr, 0, top]), 0),
+        6 => (top, random.pick(&[size, 1 << 20, u64::MAX])),
+        7 => (addr ^ 1 << 40, size ^ random.pick(&[0, 1 << 40])),
+        _ => (addr, other.size),
+    };
+    Pair { addr, size }
+}
+
+/// `count` pairs, none twice.
+fn pairs(random: &mut Random, state: &State, count: u64) -> Vec<Pair> {
+    let mut list: Vec<Pair> = Vec::new();
+    while list.len() < count as usize {
+        let mut pair = pair(random, state);
+        while list.contains(&pair) {
+            pair.addr = random.next();
+        }
+        list.push(pair);
+    }
+    list
+}
+
+/// Pairs that name blocks, in random order; none if no block fits.
+fn named(random: &mut Random, state: &State, fits: fn(&Block) -> bool) -> Vec<Pair> {
+    let blocks = state.blocks.listed().iter();
+    let mut list: Vec<Pair> = blocks.filter(|block| fits(block)).map(pair_of).collect();
+    random.shuffle(&mut list);
+    list.truncate(random.pick(&[1, 1, 2, 3, 4, 8, 16, 16]));
+    list
+}
+
+fn record_count(random: &mut Random) -> u64 {
+    match random.weighted(&[30, 20, 15, 20, 5, 10]) {
+        0 => 1,
+        1 => 2,
+        2 => 3,
+        3 => random.between(4, 14),
+        4 => 15,
+        _ => 16,
+    }
+}
+
+/// The pairs of a good request, 1 to 16.
+fn good_pairs(random: &mut Random, state: &State, memory_type: u32) -> Vec<Pair> {
+    let plain: fn(&Block) -> bool = match memory_type {
+        memory::CONFIGURE => |block| !block.configured,
+        memory::UNCONFIGURE => |block| block.permanent == 0 && block.configured,
+        _ => |block| block.permanent > 0,
+    };
+    let list = match random.weighted(&[45, 25, 30]) {
+        0 => named(random, state, plain),
+        1 => named(random, state, |_| true),
+        _ => Vec::new(),
+    };
+    if !list.is_empty() {
+        return list;
+    }
+    let count = record_count(random);
+    pairs(random, state, count)
+}
+
+fn request_number(random: &mut Random) -> u64 {
+    let any = random.next();
+    random.pick(&[0, 1, 9, any >> 32, any, u64::MAX])
+}
+
+/// A good request of one type.
+pub fn request(random: &mut Random, state: &State, memory_type: u32) -> Vec<u8> {
+    let number = request_number(random);
+    let bare = memory_type == memory::UNCONF_STATUS || memory_type == memory::CANCEL;
+    let pairs = match bare {
+        true => Vec::new(),
+        false => good_pairs(random, state, memory_type),
+    };
+    build::request(memory_type, number, &pairs)
+}
+
+const REQUESTS: [u32; 5] = [
+    memory::CONFIGURE,
+    memory::UNCONFIGURE,
+    memory::UNCONF_STATUS,
+    memory::CANCEL,
+    memory::QUERY,
+];
+
+/// A good request of any type.
+pub fn good_memory(random: &mut Random, state: &State) -> Vec<u8> {
+    let memory_type = REQUESTS[random.weighted(&[30, 25, 15, 8, 30])];
+    request(random, state, memory_type)
+}
+
+/// A memory message that is spoilt in one way; a few turn out good.
+pub fn bad_memory(random: &mut Random, state: &State) -> Vec<u8> {
+    let memory_type = random.pick(&REQUESTS);
+    let mut message = request(random, state, memory_type);
+    let length = message.len() as u64;
+    let argument = u32::from(message[7]);
+    let wrong = [
+        argument + 1,
+        argument.wrapping_sub(1),
+        0,
+        1,
+        17,
+        argument | 0x1_0000,
+        argument << 24,
+    ];
+    match random.weighted(&[20, 15, 15, 8, 12, 12, 8, 2]) {
+        0 => message.truncate(random.below(16) as usize),
+        1 => message.truncate(random.between(16, length.max(17) - 1) as usize),
+        2 => message[4..8].copy_from_slice(&random.pick(&wrong).to_be_bytes()),
+        3 => {
+            let more = random.pick(&[1, 8, 15, 16]);
+            message.extend(random.bytes(more));
+        }
+        4 => return repeated(random, state, memory_type),
+        5 => {
+            let any = random.next() as u32;
+            let other = random.pick(&[0, 0x4d, 0x6f, 0x65, 0x4d44, 0x4d43_0000, 0x1_4d51, any]);
+            message[..4].copy_from_slice(&other.to_be_bytes());
+        }
+        6 => {
+            let count = random.pick(&[0, 17, 17, 18]);
+            let list = pairs(random, state, count);
+            message = build::request(memory_type, request_number(random), &list);
+        }
+        _ => message.resize(wire::MAX_PAYLOAD - 8, 0),
+    }
+    message
+}
+
+/// A request in which one pair stands twice.
+fn repeated(random: &mut Random, state: &State, memory_type: u32) -> Vec<u8> {
+    let count = random.between(1, 15);
+    let mut list = pairs(random, state, count);
+    let at = random.below(count + 1) as usize;
+    list.insert(at, random.pick(&list.clone()));
+    build::request(memory_type, request_number(random), &list)
+}
+
+/// A channel that a message may come on.
+pub fn channel(random: &mut Random) -> u64 {
+    random.below(CHANNELS as u64)
+}

@@ -1,0 +1,267 @@
+//! Random lists of calls. The generator runs the agent on what it writes, so
+//! it knows the state and can choose what is likely to matter next.
+
+mod actions;
+mod messages;
+mod noise;
+mod random;
+mod setups;
+mod text;
+
+use crate::lines::{Call, Host, Line};
+use crate::state::{State, JOURNAL_WORDS, OUTPUT_BYTES, SLOTS};
+use actions::ACTIONS;
+use random::Random;
+
+/// A text of `calls` calls from a seed.
+pub fn generate(seed: u64, calls: u64) -> Vec<u8> {
+    let mut generator = Generator::new(seed, calls);
+    while generator.calls < generator.stop {
+        generator.list();
+    }
+    generator.stop = calls;
+    generator.empty_journal();
+    generator.call(Call::State);
+    if generator.random.once_in(2) {
+        // A cut last line is read as a line.
+        generator.text.pop();
+    }
+    generator.text
+}
+
+/// How often things are done in one list, the calls from a setup to the next.
+struct Mixture {
+    weights: Vec<u64>,
+    /// The calls of the list.
+    length: u64,
+    /// In a thousand calls: drains while there is room, odd lines, sizes.
+    drains: u64,
+    odd_lines: u64,
+    odd_sizes: u64,
+    /// A full journal is drained of one entry only.
+    tight: bool,
+    /// Calls from one `state` to the next.
+    gap: u64,
+}
+
+impl Mixture {
+    fn pick(random: &mut Random) -> Mixture {
+        let calm = random.once_in(3);
+        let weights = ACTIONS.iter().map(|(_, weight, upsets)| {
+            let factor = random.pick(&[0, 1, 1, 2, 4]);
+            if *upsets && calm {
+                0
+            } else {
+                weight * factor + u64::from(!*upsets)
+            }
+        });
+        Mixture {
+            weights: weights.collect(),
+            length: random.pick(&[15, 30, 60, 60, 120, 120, 250, 400, 1_500]),
+            drains: random.pick(&[0, 0, 15, 60, 200]),
+            odd_lines: random.pick(&[0, 2, 10, 40]),
+            odd_sizes: random.pick(&[0, 5, 20, 60]),
+            tight: random.once_in(4),
+            gap: random.between(5, 20),
+        }
+    }
+}
+
+pub(crate) struct Generator {
+    random: Random,
+    host: Host,
+    text: Vec<u8>,
+    /// The host's answers, which are not kept.
+    answer: Vec<u8>,
+    calls: u64,
+    /// No calls are added once there are so many.
+    stop: u64,
+    mixture: Mixture,
+    /// Calls until the sizes are the usual ones again.
+    odd_sizes_left: u64,
+    calls_at_state: u64,
+}
+
+impl Generator {
+    fn new(seed: u64, calls: u64) -> Generator {
+        let mut random = Random::new(seed);
+        Generator {
+            mixture: Mixture::pick(&mut random),
+            random,
+            host: Host::default(),
+            text: Vec::new(),
+            answer: Vec::new(),
+            calls: 0,
+            // One is left for the last drain.
+            stop: calls.saturating_sub(1),
+            odd_sizes_left: 0,
+            calls_at_state: 0,
+        }
+    }
+
+    fn state(&self) -> &State {
+        &self.host.state
+    }
+
+    /// Writes a call and performs it, unless there are enough calls.
+    fn call(&mut self, call: Call) {
+        if !self.count(&call) {
+            return;
+        }
+        let start = self.text.len();
+        text::write_call(&call, &mut self.random, &mut self.text);
+        debug_assert_eq!(Line::read(&self.text[start..]), Line::Call(call.clone()));
+        self.text.push(b'\n');
+        self.perform(&call);
+    }
+
+    /// Counts a call; false if there are enough. `state` and the sizes do not
+    /// count.
+    fn count(&mut self, call: &Call) -> bool {
+        if matches!(call, Call::State | Call::Output(_) | Call::Journal(_)) {
+            return true;
+        }
+        let room = self.calls < self.stop;
+        self.calls += u64::from(room);
+        room
+    }
+
+    fn perform(&mut self, call: &Call) {
+        self.answer.clear();
+        self.host.perform(call, &mut self.answer);
+    }
+
+    fn receive(&mut self, channel: u64, message: Vec<u8>) {
+        self.call(Call::Receive(channel, message));
+    }
+
+    /// Writes a line as it is, and performs it if it is a call.
+    fn raw(&mut self, line: &[u8]) {
+        if let Line::Call(call) = Line::read(line) {
+            if !self.count(&call) {
+                return;
+            }
+            self.perform(&call);
+        }
+        self.text.extend_from_slice(line);
+        self.text.push(b'\n');
+    }
+
+    /// One list: a setup, its calls, and nearly always a last drain.
+    fn list(&mut self) {
+        self.mixture = Mixture::pick(&mut self.random);
+        while self.random.once_in(2) {
+            self.refused_setup();
+        }
+        if self.random.once_in(10) {
+            // Setup is lent neither journal nor output, and leaves their sizes.
+            self.odd_sizes();
+        }
+        let words = setups::good(&mut self.random);
+        self.call(Call::Setup(words));
+        let end = self.stop.min(self.calls + self.mixture.length);
+        while self.calls < end {
+            self.step();
+        }
+        if !self.random.once_in(30) {
+            self.empty_journal();
+        }
+    }
+
+    /// A setup that is refused, and some calls on the empty state.
+    fn refused_setup(&mut self) {
+        let words = setups::bad(&mut self.random);
+        self.call(Call::Setup(words));
+        self.show_state();
+        for _ in 0..self.random.pick(&[0, 0, 1, 3, 10]) {
+            self.step();
+        }
+        self.empty_journal();
+    }
+
+    /// One action, with what may come before and after it.
+    fn step(&mut self) {
+        self.trouble();
+        let full = self.state().held == SLOTS;
+        let drains = if full { 200 } else { self.mixture.drains };
+        if self.random.per_mille(drains) {
+            self.drain(full);
+        }
+        let removal = self.state().removal;
+        if (full || self.odd_sizes_left > 0) && self.random.once_in(3) {
+            // All calls are refused alike now.
+            self.each_call();
+        } else {
+            let place = self.random.weighted(&self.mixture.weights);
+            ACTIONS[place].0(self);
+        }
+        let moved = self.state().removal != removal && self.random.once_in(4);
+        if moved || self.calls >= self.calls_at_state + self.mixture.gap {
+            self.show_state();
+        }
+    }
+
+    fn show_state(&mut self) {
+        self.calls_at_state = self.calls;
+        self.call(Call::State);
+    }
+
+    /// Odd lines and odd sizes, and the usual sizes after some calls.
+    fn trouble(&mut self) {
+        if self.random.per_mille(self.mixture.odd_lines) {
+            let line = match self.random.once_in(30) {
+                true => noise::long_line(&mut self.random),
+                false => noise::odd_line(&mut self.random),
+            };
+            self.raw(&line);
+        }
+        if self.odd_sizes_left > 0 {
+            self.odd_sizes_left -= 1;
+            if self.odd_sizes_left == 0 {
+                self.usual_sizes();
+            }
+        } else if self.random.per_mille(self.mixture.odd_sizes) {
+            self.odd_sizes();
+        }
+    }
+
+    /// Lends a journal or an output of another size for some calls.
+    fn odd_sizes(&mut self) {
+        self.odd_sizes_left = self.random.between(1, 5);
+        if self.random.once_in(2) {
+            let words = [0, 1, 64, 126, 127, 127, 129, 129, 200];
+            let words = self.random.pick(&words);
+            self.call(Call::Journal(words));
+        }
+        if self.random.once_in(2) {
+            let bytes = [0, 1, 60, 600, 671, 671, 671, 672, 673, 4_096];
+            let bytes = self.random.pick(&bytes);
+            self.call(Call::Output(bytes));
+        }
+    }
+
+    fn usual_sizes(&mut self) {
+        self.odd_sizes_left = 0;
+        self.call(Call::Journal(JOURNAL_WORDS));
+        self.call(Call::Output(OUTPUT_BYTES));
+    }
+
+    fn drain(&mut self, full: bool) {
+        let words = match self.random.weighted(&[40, 25, 35]) {
+            _ if full && self.mixture.tight => self.random.between(2, 5),
+            0 => self.random.pick(&[0, 1, 2, 3, 5, 7, 63, 64]),
+            1 => self.random.below(257),
+            _ => self.random.pick(&[127, 128, 129, 256]),
+        };
+        self.call(Call::Drain(words as usize));
+    }
+
+    /// Drains everything that is held.
+    fn empty_journal(&mut self) {
+        if self.odd_sizes_left > 0 {
+            self.usual_sizes();
+        }
+        let words = self.random.between(JOURNAL_WORDS as u64, 256);
+        self.call(Call::Drain(words as usize));
+    }
+}

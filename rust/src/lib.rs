@@ -1,0 +1,21 @@
+//! An agent written from 01-scope.md alone: the guest's end of Domain
+//! Services, the memory reconfiguration service and the journal. Beside it:
+//! the host's line format, a generator of random lists of calls, and the
+//! counts of what a list reached.
+
+pub mod agent;
+pub mod block;
+pub mod build;
+pub mod counts;
+pub mod entry;
+pub mod generate;
+pub mod lines;
+pub mod memory;
+pub mod removal;
+pub mod state;
+pub mod wire;
+
+pub use agent::{close, drain, offer, receive, setup, show, withdraw};
+pub use block::{Block, Blocks, Pair};
+pub use removal::{work, Removal, Settled, Worked};
+pub use state::{refusal, Channel, Service, State};

@@ -1,0 +1,144 @@
+//! Demand 3 on generated lists: the entries drained, then those held, are
+//! numbered from 1 without gap, and read by 01's rules they give back the
+//! state; data reaches a service when that reading shows its handle.
+
+use independent::generate::generate;
+use independent::lines::{Call, Host, Line};
+use independent::wire::{self, Message};
+use independent::{setup, Channel, Service, State};
+
+/// What reading gives: 01's rules, entry by entry.
+#[derive(Debug, PartialEq)]
+struct Reading {
+    channels: [Channel; 4],
+    configured: Vec<bool>,
+    /// Cancelled, record and pages.
+    removal: Option<(bool, u64, u64)>,
+}
+
+impl Reading {
+    /// The parts of a state that reading gives back.
+    fn of(state: &State) -> Reading {
+        let blocks = state.blocks.listed().iter();
+        Reading {
+            channels: state.channels,
+            configured: blocks.map(|block| block.configured).collect(),
+            removal: state.removal.map(|removal| {
+                (
+                    removal.cancelled,
+                    removal.position as u64,
+                    removal.collected,
+                )
+            }),
+        }
+    }
+
+    fn entry(&mut self, first: u64, second: u64) {
+        let number = first >> 32;
+        let channel = &mut self.channels[(first >> 25 & 3) as usize];
+        let service = &mut channel.services[(first >> 23 & 3) as usize];
+        let (code, count) = (first >> 16 & 7, first & 0xffff);
+        match first >> 27 & 31 {
+            1 => *channel = Channel::READY,
+            2 | 3 => *channel = Channel::CLOSED,
+            4 => *service = Service::Offered { handle: number },
+            5 => {
+                let (handle, minor) = (second, count as u16);
+                *service = Service::Registered { handle, minor };
+            }
+            6 | 7 => *service = Service::Idle,
+            11 => {
+                for (at, configured) in self.configured.iter_mut().enumerate() {
+                    *configured |= second >> at & 1 == 1;
+                }
+            }
+            12 => self.removal = Some((false, 0, 0)),
+            kind @ 13..=15 => self.removal_entry(kind, code, count, second),
+            16 => self.removal = None,
+            kind => assert!([8, 9, 10, 17].contains(&kind)),
+        }
+    }
+
+    fn removal_entry(&mut self, kind: u64, code: u64, count: u64, second: u64) {
+        let (cancelled, position, pages) = self.removal.as_mut().unwrap();
+        match kind {
+            13 => (*cancelled, *pages) = (true, 0),
+            14 => *pages += count,
+            _ => {
+                (*position, *pages) = (*position + 1, 0);
+                if code == 0 {
+                    self.configured[second as usize] = false;
+                }
+            }
+        }
+    }
+}
+
+/// Reads along with the calls: after each, one entry more is known.
+struct Follower {
+    host: Host,
+    reading: Reading,
+    read: u64,
+    drained: u64,
+}
+
+impl Follower {
+    fn call(&mut self, call: &Call) {
+        let shown = self.reading.channels;
+        let mut answer = Vec::new();
+        self.host.perform(call, &mut answer);
+        let answer = String::from_utf8(answer).unwrap();
+        if let Call::Setup(words) = call {
+            self.reading = Reading::of(&setup(words).unwrap_or_default());
+            (self.read, self.drained) = (0, 0);
+        }
+        for line in answer.lines().filter(|line| line.starts_with("entry ")) {
+            self.drained += 1;
+            assert_eq!(u64::from_str_radix(&line[6..14], 16), Ok(self.drained));
+        }
+        let state = &self.host.state;
+        assert!(state.is_sound());
+        assert_eq!(state.held, state.last - self.drained);
+        while self.read < state.last {
+            self.read += 1;
+            let [first, second] = self.host.entry(self.read);
+            assert_eq!(first >> 32, self.read);
+            self.reading.entry(first, second);
+            self.reached(call, first >> 27 & 31, &shown);
+        }
+        assert_eq!(self.reading, Reading::of(state));
+    }
+
+    /// Data reaches a service when its handle was registered there.
+    fn reached(&self, call: &Call, kind: u64, shown: &[Channel; 4]) {
+        let Call::Receive(channel, message) = call else {
+            return;
+        };
+        let Some(Message::Data { handle, .. }) = wire::parse(message) else {
+            return;
+        };
+        match shown[*channel as usize].registered(handle) {
+            Some(0) => assert!((10..=13).contains(&kind)),
+            Some(_) => assert_eq!(kind, 8),
+            None => assert!(kind == 9 || kind == 2),
+        }
+    }
+}
+
+#[test]
+fn reading_gives_back_the_state() {
+    for seed in 0..20 {
+        let host = Host::default();
+        let mut follower = Follower {
+            reading: Reading::of(&host.state),
+            host,
+            read: 0,
+            drained: 0,
+        };
+        for line in generate(seed, 3_000).split(|byte| *byte == b'\n') {
+            if let Line::Call(call) = Line::read(line) {
+                follower.call(&call);
+            }
+        }
+    }
+}
