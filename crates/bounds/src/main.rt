@@ -1,252 +1,380 @@
-// The boundaries that 01 names, of setup, offer, withdraw, close and show: a line a call, with what it answers.
+// The boundaries of 01. First those that no list of calls reaches, on states made by hand: the last entry number and each way in which a state is
+// not sound. Then the list of calls in this program's stdin.
 ghost use Prim.Native.Nat.{_<_};
-use libc::STDOUT_FILENO;
-use model::Answer;
+use calls::answers;
+use lines::output;
+use lines::output::Text;
 use model::State;
 
-fn word(text: &[u8]) {
-    io::write_all(STDOUT_FILENO, text);
+type Journal = [u64; 128];
+
+type Output = [u8; 672];
+
+// What every word of the journal and every byte of the output holds before a call.
+const WORD: u64 = 7;
+
+const BYTE: u8 = 7;
+
+fn states_differ(a: &State, b: &State) -> bool {
+    let mut i: usize = 0;
+    while i < 191 {
+        if a[i] != b[i] {
+            return true;
+        }
+        i += 1;
+    }
+    false
 }
 
-fn number(n: u64) {
-    word(b" ");
-    io::print_decimal(STDOUT_FILENO, n);
+fn journal_differs(journal: &Journal) -> bool {
+    let mut i: usize = 0;
+    while i < 128 {
+        if journal[i] != WORD {
+            return true;
+        }
+        i += 1;
+    }
+    false
 }
 
-fn answer(name: &[u8], a: Answer) {
-    word(name);
-    number(a.refusal);
-    number(a.length as u64);
-    word(b"\n");
+fn output_differs(out: &Output) -> bool {
+    let mut i: usize = 0;
+    while i < 672 {
+        if out[i] != BYTE {
+            return true;
+        }
+        i += 1;
+    }
+    false
 }
 
-fn started(name: &[u8], list: &[u64]) -> State {
-    let s = agent::setup(list);
-    word(name);
-    number(s.refusal);
-    word(b"\n");
-    s.state
+// A refusal writes nothing anywhere: a line for each thing that it changed.
+fn check(
+    before: &State,
+    state: &State,
+    journal: &Journal,
+    out: &Output,
+    text: &mut Text,
+    used: &mut usize,
+) {
+    if states_differ(before, state) {
+        output::put(text, used, b"the state has changed\n");
+    }
+    if journal_differs(journal) {
+        output::put(text, used, b"the journal has changed\n");
+    }
+    if output_differs(out) {
+        output::put(text, used, b"the output has changed\n");
+    }
 }
 
-// One block of 4 pages, configured.
-fn one_block() -> State {
-    let list = [0x10000000u64, 4, 0, 0, 1];
-    started(b"setup", &list)
+fn receive(before: &State, text: &mut Text, used: &mut usize) {
+    let mut state = *before;
+    let mut journal = [WORD; 128];
+    let mut out = [BYTE; 672];
+    let init_1_0 = b"\x00\x00\x00\x00\x00\x00\x00\x04\x00\x01\x00\x00";
+    let a = agent::receive(&mut state, 3, init_1_0, &mut journal, &mut out);
+    answers::answered(text, used, b"receive", a, &out);
+    check(before, &state, &journal, &out, text, used);
 }
 
-// Channel 2 ready, as INIT_REQ 1.0 leaves it.
-fn ready() -> State {
-    let mut s = one_block();
-    s[2] = 1;
-    s
+fn offer(before: &State, text: &mut Text, used: &mut usize) {
+    let mut state = *before;
+    let mut journal = [WORD; 128];
+    let mut out = [BYTE; 672];
+    let a = agent::offer(&mut state, 2, 3, &mut journal, &mut out);
+    answers::answered(text, used, b"offer", a, &out);
+    check(before, &state, &journal, &out, text, used);
 }
 
-fn block_lists() {
-    let six = [0x10000000u64, 4, 0, 0, 1, 0];
-    started(b"6 words", &six);
-    let odd = [0x10000001u64, 4, 0, 0, 1];
-    started(b"base not a page", &odd);
-    let none = [0x10000000u64, 0, 0, 0, 1];
-    started(b"0 pages", &none);
-    let most = [0u64, 1048576, 0, 0, 1];
-    started(b"1048576 pages", &most);
-    let more = [0u64, 1048577, 0, 0, 1];
-    started(b"1048577 pages", &more);
-    let high = [9223372036854767616u64, 1, 0, 0, 1];
-    started(b"end 2^63", &high);
-    let past = [9223372036854775808u64, 1, 0, 0, 1];
-    started(b"past 2^63", &past);
-    let over = [0u64, 2, 0, 0, 1, 8192, 1, 0, 0, 1];
-    started(b"overlap", &over);
-    let next = [0u64, 1, 0, 0, 1, 8192, 1, 0, 0, 0];
-    started(b"next to it", &next);
-    let lost = [0u64, 2, 1, 1, 0];
-    started(b"permanent, unconfigured", &lost);
-    let sixteen = [0u64; 85];
-    started(b"17 blocks", &sixteen);
-    started(b"empty", &sixteen[0..0]);
+fn withdraw(before: &State, text: &mut Text, used: &mut usize) {
+    let mut state = *before;
+    let mut journal = [WORD; 128];
+    let mut out = [BYTE; 672];
+    let a = agent::withdraw(&mut state, 2, 0, &mut journal, &mut out);
+    answers::answered(text, used, b"withdraw", a, &out);
+    check(before, &state, &journal, &out, text, used);
 }
 
-fn buffers() {
-    let mut short_journal = [0u64; 127];
-    let mut long_journal = [0u64; 129];
-    let mut journal = [0u64; 128];
-    let mut short_out = [0u8; 671];
-    let mut out = [0u8; 672];
-    let mut long_out = [0u8; 673];
-    let mut s = ready();
-    answer(
-        b"127 words",
-        agent::offer(&mut s, 2, 0, &mut short_journal, &mut out),
-    );
-    answer(
-        b"129 words",
-        agent::offer(&mut s, 2, 0, &mut long_journal, &mut out),
-    );
-    answer(
-        b"671 bytes",
-        agent::offer(&mut s, 2, 0, &mut journal, &mut short_out),
-    );
-    answer(
-        b"672 bytes",
-        agent::offer(&mut s, 2, 0, &mut journal, &mut out),
-    );
-    answer(
-        b"673 bytes",
-        agent::offer(&mut s, 2, 2, &mut journal, &mut long_out),
-    );
-    answer(b"again", agent::offer(&mut s, 2, 2, &mut journal, &mut out));
+fn close(before: &State, text: &mut Text, used: &mut usize) {
+    let mut state = *before;
+    let mut journal = [WORD; 128];
+    let mut out = [BYTE; 672];
+    let a = agent::close(&mut state, 1, &mut journal, &mut out);
+    answers::answered(text, used, b"close", a, &out);
+    check(before, &state, &journal, &out, text, used);
 }
 
-fn arguments() {
-    let mut journal = [0u64; 128];
-    let mut out = [0u8; 672];
-    let mut s = ready();
-    answer(
-        b"channel 4",
-        agent::offer(&mut s, 4, 0, &mut journal, &mut out),
-    );
-    answer(
-        b"service 4",
-        agent::offer(&mut s, 2, 4, &mut journal, &mut out),
-    );
-    answer(
-        b"channel 3 closed",
-        agent::offer(&mut s, 3, 0, &mut journal, &mut out),
-    );
-    answer(
-        b"withdraw idle",
-        agent::withdraw(&mut s, 2, 3, &mut journal, &mut out),
-    );
-    answer(b"offer", agent::offer(&mut s, 2, 3, &mut journal, &mut out));
-    answer(
-        b"withdraw",
-        agent::withdraw(&mut s, 2, 3, &mut journal, &mut out),
-    );
-    answer(b"close 4", agent::close(&mut s, 4, &mut journal, &mut out));
-    answer(b"close 2", agent::close(&mut s, 2, &mut journal, &mut out));
-    answer(
-        b"close 2 again",
-        agent::close(&mut s, 2, &mut journal, &mut out),
-    );
+fn work(before: &State, text: &mut Text, used: &mut usize) {
+    let mut state = *before;
+    let mut journal = [WORD; 128];
+    let mut out = [BYTE; 672];
+    let a = agent::work(&mut state, 1, &mut journal, &mut out);
+    answers::worked(text, used, a, &out);
+    check(before, &state, &journal, &out, text, used);
 }
 
-fn three_calls(s: &mut State, journal: &mut [u64], out: &mut [u8]) {
-    agent::close(s, 1, journal, out);
-    agent::close(s, 1, journal, out);
-    agent::close(s, 1, journal, out);
+fn drain(before: &State, text: &mut Text, used: &mut usize) {
+    let mut state = *before;
+    let journal = [WORD; 128];
+    let out = [BYTE; 672];
+    let mut run = [0u64; 256];
+    let a = agent::drain(&mut state, &journal, &mut run);
+    answers::drained(text, used, a, &run);
+    check(before, &state, &journal, &out, text, used);
 }
 
-fn nine_calls(s: &mut State, journal: &mut [u64], out: &mut [u8]) {
-    three_calls(s, journal, out);
-    three_calls(s, journal, out);
-    three_calls(s, journal, out);
+// Data under handle 3, which the sound state has registered for service 1 on channel 2.
+fn show(before: &State, text: &mut Text, used: &mut usize) {
+    let data = b"\x00\x00\x00\x09\x00\x00\x00\x09\x00\x00\x00\x00\x00\x00\x00\x03\x41";
+    answers::shown(text, used, agent::show(before, 2, data));
 }
 
-// 64 calls are noted, and the 65th is refused.
-fn full_journal() {
-    let mut journal = [0u64; 128];
-    let mut out = [0u8; 672];
-    let mut s = one_block();
-    nine_calls(&mut s, &mut journal, &mut out);
-    nine_calls(&mut s, &mut journal, &mut out);
-    nine_calls(&mut s, &mut journal, &mut out);
-    nine_calls(&mut s, &mut journal, &mut out);
-    nine_calls(&mut s, &mut journal, &mut out);
-    nine_calls(&mut s, &mut journal, &mut out);
-    nine_calls(&mut s, &mut journal, &mut out);
-    answer(b"63 held", agent::close(&mut s, 1, &mut journal, &mut out));
-    answer(b"64 held", agent::close(&mut s, 1, &mut journal, &mut out));
-    answer(
-        b"64 held, offer",
-        agent::offer(&mut s, 1, 1, &mut journal, &mut out),
-    );
-    s[133] = 4294967295;
-    s[134] = 0;
-    answer(
-        b"last number used",
-        agent::close(&mut s, 1, &mut journal, &mut out),
-    );
+// Each call on the same state.
+fn each_call(state: &State, text: &mut Text, used: &mut usize) {
+    receive(state, text, used);
+    offer(state, text, used);
+    withdraw(state, text, used);
+    close(state, text, used);
+    work(state, text, used);
+    drain(state, text, used);
+    show(state, text, used);
 }
 
-// Each kind of unsound state.
-fn unsound(name: &[u8], at: usize, value: u64)
+// A state of two blocks, the second unconfigured: channel 2 ready, service 0 registered under handle 2, service 1 under 3, service 2 offered under
+// 4; nine entries numbered and none held; a removal of the first block and then the second, under handle 2, with one page of four collected.
+fn sound_state() -> State {
+    let list = [0x10000000u64, 4, 0, 0, 1, 0x20000000, 2, 0, 0, 0];
+    let started = agent::setup(&list);
+    let mut state = started.state;
+    state[2] = 1;
+    state[28] = 2;
+    state[29] = 2;
+    state[31] = 2;
+    state[32] = 3;
+    state[34] = 1;
+    state[35] = 4;
+    state[133] = 9;
+    state[135] = 1;
+    state[137] = 2;
+    state[138] = 2;
+    state[140] = 2;
+    state[142] = 1;
+    state[143] = 0x10000000;
+    state[144] = 0x20000000;
+    state[159] = 0x8000;
+    state[160] = 0x4000;
+    state
+}
+
+// Each call on the sound state with one word changed.
+fn changed(name: &[u8], at: usize, word: u64, text: &mut Text, used: &mut usize)
     requires { ⌜ at < 191 ⌝ }
 {
-    let mut journal = [0u64; 128];
-    let mut out = [0u8; 672];
-    let mut s = ready();
-    agent::offer(&mut s, 2, 0, &mut journal, &mut out);
-    agent::offer(&mut s, 2, 1, &mut journal, &mut out);
-    s[at] = value;
-    answer(name, agent::close(&mut s, 2, &mut journal, &mut out));
+    let mut state = sound_state();
+    state[at] = word;
+    output::put(text, used, name);
+    each_call(&state, text, used);
 }
 
-fn unsound_states() {
-    unsound(b"channel 2 is 2", 2, 2);
-    unsound(b"live on a closed channel", 2, 0);
-    unsound(b"stage 3", 28, 3);
-    unsound(b"handle 0", 29, 0);
-    unsound(b"handle above the last", 29, 3);
-    unsound(b"equal handles", 29, 2);
-    unsound(b"a minor while offered", 30, 1);
-    unsound(b"17 blocks", 52, 17);
-    unsound(b"a block that breaks a rule", 54, 0);
-    unsound(b"last number 2^32", 133, 4294967296);
-    unsound(b"65 held", 134, 65);
-    unsound(b"more held than numbered", 134, 3);
-    unsound(b"outstanding 2", 135, 2);
-    unsound(b"outstanding, no records", 135, 1);
-}
-
-fn part(name: &[u8], p: &[u8]) {
-    word(name);
-    number(p.len() as u64);
-    word(b"\n");
-}
-
-fn shown() {
-    let mut journal = [0u64; 128];
-    let mut out = [0u8; 672];
-    let mut s = ready();
-    agent::offer(&mut s, 2, 1, &mut journal, &mut out);
-    // DATA of 11 bytes under handle 1
-    let m = [
-        0u8,
-        0,
-        0,
-        9,
-        0,
-        0,
-        0,
-        11,
-        0,
-        0,
-        0,
-        0,
-        0,
-        0,
-        0,
+fn channels_and_services(text: &mut Text, used: &mut usize) {
+    changed(b"# a channel neither closed nor ready\n", 0, 2, text, used);
+    changed(b"# live services on a closed channel\n", 2, 0, text, used);
+    changed(
+        b"# a service neither idle, offered nor registered\n",
+        28,
+        3,
+        text,
+        used,
+    );
+    changed(b"# an idle service with a handle\n", 38, 5, text, used);
+    changed(
+        b"# an offered service with a minor version\n",
+        36,
         1,
-        65,
-        66,
-        67,
-    ];
-    part(b"show offered", agent::show(&s, 2, &m));
-    s[4 + 9 * 3] = 2;
-    part(b"show registered", agent::show(&s, 2, &m));
-    part(b"show channel 1", agent::show(&s, 1, &m));
-    part(b"show channel 4", agent::show(&s, 4, &m));
-    part(b"show a cut message", agent::show(&s, 2, &m[0..18]));
-    s[134] = 65;
-    part(b"show, unsound", agent::show(&s, 2, &m));
+        text,
+        used,
+    );
+    changed(b"# a minor version above 65535\n", 30, 65536, text, used);
+    changed(b"# a live handle 0\n", 29, 0, text, used);
+    changed(
+        b"# a live handle above the last number\n",
+        29,
+        10,
+        text,
+        used,
+    );
+    changed(
+        b"# a live handle that is another's but for 2^32\n",
+        29,
+        4294967299,
+        text,
+        used,
+    );
+    changed(b"# two live handles the same\n", 29, 3, text, used);
+}
+
+fn blocks(text: &mut Text, used: &mut usize) {
+    changed(b"# 17 blocks\n", 52, 17, text, used);
+    changed(
+        b"# a base that is no multiple of 8192\n",
+        53,
+        0x10000001,
+        text,
+        used,
+    );
+    changed(b"# a block of 0 pages\n", 54, 0, text, used);
+    changed(b"# a block of 1048577 pages\n", 54, 1048577, text, used);
+    changed(
+        b"# a block that ends above the base after it\n",
+        54,
+        32769,
+        text,
+        used,
+    );
+    changed(
+        b"# a first permanent page with a count of 0\n",
+        55,
+        1,
+        text,
+        used,
+    );
+    changed(
+        b"# permanent pages in an unconfigured block\n",
+        61,
+        1,
+        text,
+        used,
+    );
+    changed(b"# a block neither configured nor not\n", 57, 2, text, used);
+    changed(
+        b"# a block that ends above 2^63\n",
+        58,
+        9223372036854767616,
+        text,
+        used,
+    );
+}
+
+fn counts_and_removal(text: &mut Text, used: &mut usize) {
+    changed(
+        b"# a last number above 4294967295\n",
+        133,
+        4294967296,
+        text,
+        used,
+    );
+    changed(b"# more held than numbered\n", 134, 10, text, used);
+    changed(b"# outstanding neither 0 nor 1\n", 135, 2, text, used);
+    changed(b"# cancelled neither 0 nor 1\n", 136, 2, text, used);
+    changed(b"# a removal's channel above 3\n", 137, 4, text, used);
+    changed(
+        b"# a removal's handle above the last number\n",
+        138,
+        10,
+        text,
+        used,
+    );
+    changed(b"# a removal of 0 records\n", 140, 0, text, used);
+    changed(b"# a removal of 17 records\n", 140, 17, text, used);
+    changed(
+        b"# a position above the records' count\n",
+        141,
+        3,
+        text,
+        used,
+    );
+    changed(b"# all pages of the block collected\n", 142, 4, text, used);
+    changed(
+        b"# pages collected where the record names no block\n",
+        143,
+        0x30000000,
+        text,
+        used,
+    );
+    changed(
+        b"# pages collected of an unconfigured block\n",
+        141,
+        1,
+        text,
+        used,
+    );
+}
+
+// More than 64 held, and a settled record that is neither OK nor NOWORK.
+fn two_words(text: &mut Text, used: &mut usize) {
+    let mut many = sound_state();
+    many[133] = 100;
+    many[134] = 65;
+    output::put(text, used, b"# 65 entries held\n");
+    each_call(&many, text, used);
+    let mut settled = sound_state();
+    settled[141] = 1;
+    settled[142] = 0;
+    settled[175] = 1;
+    output::put(text, used, b"# a settled record neither OK nor NOWORK\n");
+    each_call(&settled, text, used);
+}
+
+// The last number used, with none held and with 64: 4 is tested before 5, and drain has neither.
+fn last_number(text: &mut Text, used: &mut usize) {
+    let mut state = sound_state();
+    state[133] = 4294967295;
+    output::put(text, used, b"# entry number 4294967295 used\n");
+    each_call(&state, text, used);
+    state[134] = 64;
+    output::put(
+        text,
+        used,
+        b"# entry number 4294967295 used, and 64 entries held\n",
+    );
+    receive(&state, text, used);
+    close(&state, text, used);
+}
+
+// The last number but one is used: one more call is accepted, and the next is refused.
+fn last_number_but_one(text: &mut Text, used: &mut usize) {
+    let mut state = sound_state();
+    let mut journal = [0u64; 128];
+    let mut out = [0u8; 672];
+    let mut run = [0u64; 256];
+    state[133] = 4294967294;
+    output::put(text, used, b"# entry number 4294967294 used\n");
+    let a = agent::close(&mut state, 1, &mut journal, &mut out);
+    answers::answered(text, used, b"close", a, &out);
+    let b = agent::close(&mut state, 1, &mut journal, &mut out);
+    answers::answered(text, used, b"close", b, &out);
+    let c = agent::drain(&mut state, &journal, &mut run);
+    answers::drained(text, used, c, &run);
+}
+
+// 8 is tested before 1, 2 and 3.
+fn unsound_first(text: &mut Text, used: &mut usize) {
+    let mut state = sound_state();
+    let mut journal = [0u64; 127];
+    let mut out = [0u8; 671];
+    state[134] = 10;
+    output::put(
+        text,
+        used,
+        b"# an unsound state, 127 words of journal, 671 bytes of output, channel 4\n",
+    );
+    let a = agent::close(&mut state, 4, &mut journal, &mut out);
+    answers::answered(text, used, b"close", a, &out);
 }
 
 fn main() {
-    block_lists();
-    buffers();
-    arguments();
-    full_journal();
-    unsound_states();
-    shown();
+    let mut text = [0u8; 65536];
+    let mut used: usize = 0;
+    output::put(&mut text, &mut used, b"# the state as it is, sound\n");
+    show(&sound_state(), &mut text, &mut used);
+    channels_and_services(&mut text, &mut used);
+    blocks(&mut text, &mut used);
+    counts_and_removal(&mut text, &mut used);
+    two_words(&mut text, &mut used);
+    last_number(&mut text, &mut used);
+    last_number_but_one(&mut text, &mut used);
+    unsound_first(&mut text, &mut used);
+    output::flush(&text, &mut used);
+    calls::run();
 }

@@ -1,5 +1,5 @@
 // A list of calls, one a line: each line read, its call made of the agent, and the answer written as text.
-mod answers;
+pub mod answers;
 mod list;
 mod listing;
 mod made;

@@ -132,27 +132,11 @@ pub fn host_data(random: &mut Random) -> Vec<u8> {
     random.bytes(length)
 }
 
-/// Types that a message may be given in place of its own.
-const WRONG_TYPES: [u32; 18] = [
-    0,
-    1,
-    1,
-    2,
-    2,
-    3,
-    4,
-    5,
-    6,
-    7,
-    8,
-    9,
-    10,
-    11,
-    12,
-    0x0900,
-    0x8000_0009,
-    0xffff_ffff,
-];
+/// A type that a message may be given in place of its own.
+fn other_type(random: &mut Random) -> u32 {
+    let any = random.next() as u32;
+    random.pick(&[0, 1, 1, 2, 2, 3, 4, 5, 6, 7, 8, 9, 10, 11, 12, 0x0900, any])
+}
 
 /// A message spoilt in one way.
 pub fn damaged(random: &mut Random, state: &State, channel: u64) -> Vec<u8> {
@@ -178,7 +162,7 @@ pub fn damaged(random: &mut Random, state: &State, channel: u64) -> Vec<u8> {
             message[4..8].copy_from_slice(&random.pick(&wrong).to_be_bytes());
         }
         3 => {
-            let ds_type = random.pick(&WRONG_TYPES);
+            let ds_type = other_type(random);
             message[..4].copy_from_slice(&ds_type.to_be_bytes());
         }
         4 => {
