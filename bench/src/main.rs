@@ -101,7 +101,13 @@ impl<A: Agent> Host<A> {
     fn register(&mut self, channel: u64) {
         self.receive(channel, &ds_message(0, &[0, 1, 0, 0]));
         for service in 0..4 {
-            let length = A::offer(&mut self.state, channel, service, &mut self.journal, &mut self.out);
+            let length = A::offer(
+                &mut self.state,
+                channel,
+                service,
+                &mut self.journal,
+                &mut self.out,
+            );
             length.expect("the offer is accepted");
             let mut payload = self.out[8..16].to_vec();
             payload.extend([0, 0]);
@@ -110,7 +116,13 @@ impl<A: Agent> Host<A> {
     }
 
     fn receive(&mut self, channel: u64, message: &[u8]) {
-        let length = A::receive(&mut self.state, channel, message, &mut self.journal, &mut self.out);
+        let length = A::receive(
+            &mut self.state,
+            channel,
+            message,
+            &mut self.journal,
+            &mut self.out,
+        );
         black_box(length).expect("the message is accepted");
     }
 
@@ -172,26 +184,28 @@ impl Case {
         host
     }
 
-    /// One batch: the calls made.
-    fn batch<A: Agent>(&self, host: &mut Host<A>, query: &[u8]) -> usize {
-        match self.calls {
-            Calls::Query(_) => (0..BATCH).for_each(|_| host.receive(0, query)),
-            Calls::Work => (0..BATCH).for_each(|_| host.work()),
-            Calls::DrainOne => (0..BATCH).for_each(|_| host.drain(2)),
-            Calls::DrainFull => {
-                host.drain(128);
-                return 1;
+    /// One batch of calls. A drain of all entries has a state of its own each time.
+    fn batch<A: Agent>(&self, host: &mut Host<A>, query: &[u8], copies: &mut [A::State; BATCH]) {
+        for copy in copies {
+            match self.calls {
+                Calls::Query(_) => host.receive(0, query),
+                Calls::Work => host.work(),
+                Calls::DrainOne => host.drain(2),
+                Calls::DrainFull => {
+                    let drained = A::drain(copy, &host.journal, &mut host.run);
+                    black_box(drained).expect("the drain is accepted");
+                }
             }
         }
-        BATCH
     }
 
     /// The fastest round's nanoseconds a call, beside the least that it has so far.
     fn round<A: Agent>(&self, host: &mut Host<A>, query: &[u8], least: f64) -> f64 {
         let saved = host.state;
+        let mut copies = [saved; BATCH];
         let begin = Instant::now();
-        let calls = self.batch(host, query);
-        let nanoseconds = begin.elapsed().as_nanos() as f64 / calls as f64;
+        self.batch(host, query, &mut copies);
+        let nanoseconds = begin.elapsed().as_nanos() as f64 / BATCH as f64;
         host.state = saved;
         least.min(nanoseconds)
     }
@@ -209,7 +223,12 @@ impl Case {
             least = self.round(&mut ours, &query, least);
             least_theirs = self.round(&mut theirs, &query, least_theirs);
         }
-        assert_eq!(ours.seen(), theirs.seen(), "{}: the agents differ", self.name);
+        assert_eq!(
+            ours.seen(),
+            theirs.seen(),
+            "{}: the agents differ",
+            self.name
+        );
         println!(
             "{:<34} {:>10.1} {:>12.1} {:>8.2}",
             self.name,
