@@ -1,0 +1,78 @@
+/*
+ * The agent's calls, for C: link target/staticlib/libexports.a, which `rt staticlib exports` writes.
+ *
+ * Every call checks all that it is given and is proved to do nothing undefined on any state words, lengths and numbers. What C must
+ * see to: each pointer has as many elements as the length beside it says, state has ARKELUTZ_STATE_WORDS words, and no two things
+ * that one call is lent overlap where one of them is written.
+ *
+ * refusal is 0 where the call was accepted, else the number of document 01 (1 to 8); then nothing was written anywhere.
+ * Nothing is allocated or kept between calls: the state and the journal are the caller's.
+ */
+#ifndef ARKELUTZ_H
+#define ARKELUTZ_H
+
+#include <stddef.h>
+#include <stdint.h>
+
+#ifdef __cplusplus
+extern "C" {
+#endif
+
+#define ARKELUTZ_STATE_WORDS 191
+#define ARKELUTZ_JOURNAL_WORDS 128 /* every call but setup and show asks for a journal of just this length */
+#define ARKELUTZ_OUTPUT_BYTES 672  /* and, but for drain, for an output of this length or more */
+
+struct arkelutz_started {
+    uint64_t refusal; /* 0 or 7 */
+    uint64_t state[ARKELUTZ_STATE_WORDS];
+};
+
+struct arkelutz_answer {
+    uint64_t refusal;
+    size_t length; /* of the reply, at the start of the output */
+};
+
+struct arkelutz_worked {
+    uint64_t refusal;
+    size_t length;
+    uint64_t pages; /* moved by this step */
+};
+
+struct arkelutz_drained {
+    uint64_t refusal;
+    size_t entries; /* at the start of the run, two words each */
+};
+
+/* Takes a block list, five words a block, and gives the first state. */
+struct arkelutz_started arkelutz_setup(const uint64_t *list, size_t list_words);
+
+/* Receives a message on a channel. */
+struct arkelutz_answer arkelutz_receive(uint64_t *state, size_t channel, const uint8_t *message, size_t message_bytes,
+                                        uint64_t *journal, size_t journal_words, uint8_t *out, size_t out_bytes);
+
+/* Offers a service to a channel's other end, or takes it back. */
+struct arkelutz_answer arkelutz_offer(uint64_t *state, size_t channel, size_t service, uint64_t *journal,
+                                      size_t journal_words, uint8_t *out, size_t out_bytes);
+struct arkelutz_answer arkelutz_withdraw(uint64_t *state, size_t channel, size_t service, uint64_t *journal,
+                                         size_t journal_words, uint8_t *out, size_t out_bytes);
+
+/* Closes a channel. */
+struct arkelutz_answer arkelutz_close(uint64_t *state, size_t channel, uint64_t *journal, size_t journal_words,
+                                      uint8_t *out, size_t out_bytes);
+
+/* Does one step of the outstanding removal, with a budget of 1 to 65,535 pages. */
+struct arkelutz_worked arkelutz_work(uint64_t *state, uint64_t budget, uint64_t *journal, size_t journal_words,
+                                     uint8_t *out, size_t out_bytes);
+
+/* Copies the oldest entries to the start of a run, as many whole ones as are held and fit, and forgets them. */
+struct arkelutz_drained arkelutz_drain(uint64_t *state, const uint64_t *journal, size_t journal_words, uint64_t *run,
+                                       size_t run_words);
+
+/* The length of the host's own part of a data message, which begins at byte 16; 0 if it is not for the host. */
+size_t arkelutz_show(const uint64_t *state, size_t channel, const uint8_t *message, size_t message_bytes);
+
+#ifdef __cplusplus
+}
+#endif
+
+#endif
