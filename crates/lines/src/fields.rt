@@ -1,7 +1,10 @@
 // The fields of a line: names, numbers and bytes.
 ghost use Prim.Native.Nat.{_≤_};
 ghost use lib.ListN.{length};
+ghost use mathlib.Core.Path.{_≡_};
+ghost use mathlib.Core.Bool.{true, false};
 ghost use Rattle.io.specs.Counts.{Counts};
+ghost use Rattle.lines.specs.Fields.{digitOf, appended, digitsIn, numberIn, pairIn, BytesRead, areSame, isComment, isBlank};
 
 // A number below 2^64, or no number.
 pub enum Number {
@@ -15,26 +18,41 @@ pub enum Read {
     Bad,
 }
 
-fn wide(b: u8) -> u64 {
+fn wide(b: u8) -> u64
+    ensures { λ r. ⌜ r ≡ b ⌝ }
+{
     b as u64
 }
 
 // The value of a hexadecimal digit of either case, or 16.
-fn digit(b: u8) -> u8 {
-    if b'0' <= b && b <= b'9' {
+fn digit(b: u8) -> u8
+    ensures { λ r. ⌜ r ≡ digitOf b ⌝ }
+{
+    if b < b'0' {
+        return 16;
+    }
+    if b <= b'9' {
         return b - b'0';
     }
-    if b'a' <= b && b <= b'f' {
-        return b - b'a' + 10;
+    if b < b'A' {
+        return 16;
     }
-    if b'A' <= b && b <= b'F' {
+    if b <= b'F' {
         return b - b'A' + 10;
+    }
+    if b < b'a' {
+        return 16;
+    }
+    if b <= b'f' {
+        return b - b'a' + 10;
     }
     16
 }
 
 // The number with one decimal digit more, if that is one and it stays below 2^64.
-fn with_decimal(value: u64, b: u8) -> Number {
+fn with_decimal(value: u64, b: u8) -> Number
+    ensures { λ r. ⌜ r ≡ appended false value b ⌝ }
+{
     let d = wide(digit(b));
     if 9 < d {
         return Number::Bad;
@@ -50,7 +68,9 @@ fn with_decimal(value: u64, b: u8) -> Number {
 }
 
 // The number with one hexadecimal digit more.
-fn with_hexadecimal(value: u64, b: u8) -> Number {
+fn with_hexadecimal(value: u64, b: u8) -> Number
+    ensures { λ r. ⌜ r ≡ appended true value b ⌝ }
+{
     let d = wide(digit(b));
     if 15 < d {
         return Number::Bad;
@@ -61,7 +81,9 @@ fn with_hexadecimal(value: u64, b: u8) -> Number {
     Number::Value(value * 16 + d)
 }
 
-fn with_digit(hexadecimal: bool, value: u64, b: u8) -> Number {
+fn with_digit(hexadecimal: bool, value: u64, b: u8) -> Number
+    ensures { λ r. ⌜ r ≡ appended hexadecimal value b ⌝ }
+{
     if hexadecimal {
         return with_hexadecimal(value, b);
     }
@@ -69,7 +91,9 @@ fn with_digit(hexadecimal: bool, value: u64, b: u8) -> Number {
 }
 
 // One or more digits.
-fn digits(hexadecimal: bool, field: &[u8]) -> Number {
+fn digits(hexadecimal: bool, field: &[u8]) -> Number
+    ensures { λ r. ⌜ r ≡ digitsIn hexadecimal (now (field .entry)) ⌝ }
+{
     if field.len() == 0 {
         return Number::Bad;
     }
@@ -86,18 +110,25 @@ fn digits(hexadecimal: bool, field: &[u8]) -> Number {
 }
 
 // A number in decimal, or with 0x in hexadecimal.
-pub fn number_in(field: &[u8]) -> Number {
+pub fn number_in(field: &[u8]) -> Number
+    ensures { λ r. ⌜ r ≡ numberIn (now (field .entry)) ⌝ }
+{
     if field.len() < 2 {
         return digits(false, field);
     }
-    if field[0] == b'0' && field[1] == b'x' {
-        return digits(true, &field[2..]);
+    if field[0] != b'0' {
+        return digits(false, field);
     }
-    digits(false, field)
+    if field[1] != b'x' {
+        return digits(false, field);
+    }
+    digits(true, &field[2..])
 }
 
 // The byte of two hexadecimal digits.
-fn pair(high: u8, low: u8) -> Number {
+fn pair(high: u8, low: u8) -> Number
+    ensures { λ r. ⌜ r ≡ pairIn high low ⌝ }
+{
     let h = digit(high);
     let l = digit(low);
     if 15 < h {
@@ -110,9 +141,14 @@ fn pair(high: u8, low: u8) -> Number {
 }
 
 // The bytes that a field's digits give, at the start of a lent run that they fit.
-pub fn bytes_in(field: &[u8], into: &mut [u8]) -> Read {
+pub fn bytes_in(field: &[u8], into: &mut [u8]) -> Read
+    ensures { λ r. ⌜ BytesRead (now (field .entry)) (now (into .entry)) r (now (into .exit)) ⌝ }
+{
     let count = field.len() / 2;
-    if field.len() == 0 || field.len() % 2 != 0 {
+    if field.len() == 0 {
+        return Read::Bad;
+    }
+    if field.len() % 2 != 0 {
         return Read::Bad;
     }
     if into.len() < count {
@@ -146,7 +182,9 @@ pub fn end_of(line: &[u8], from: usize) -> usize
 }
 
 // The line begins with #.
-pub fn is_comment(line: &[u8]) -> bool {
+pub fn is_comment(line: &[u8]) -> bool
+    ensures { λ r. ⌜ r ≡ isComment (now (line .entry)) ⌝ }
+{
     if line.len() == 0 {
         return false;
     }
@@ -154,7 +192,9 @@ pub fn is_comment(line: &[u8]) -> bool {
 }
 
 // All bytes are spaces.
-pub fn is_blank(line: &[u8]) -> bool {
+pub fn is_blank(line: &[u8]) -> bool
+    ensures { λ r. ⌜ r ≡ isBlank (now (line .entry)) ⌝ }
+{
     let mut i: usize = 0;
     while i < line.len() {
         if line[i] != b' ' {
@@ -165,7 +205,10 @@ pub fn is_blank(line: &[u8]) -> bool {
     true
 }
 
-pub fn same(a: &[u8], b: &[u8]) -> bool {
+// The two fields are the same.
+pub fn same(a: &[u8], b: &[u8]) -> bool
+    ensures { λ r. ⌜ r ≡ areSame (now (a .entry)) (now (b .entry)) ⌝ }
+{
     if a.len() != b.len() {
         return false;
     }

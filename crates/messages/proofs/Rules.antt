@@ -18,11 +18,6 @@ use Rattle.model.specs.Messages.{typeOf, payloadLength, wholeMessage, idFits, p
 use Rattle.model.proofs.Choice.{both, clash, on-pick}
 use Rattle.messages.specs.Id.{noZero}
 
--- a test that cannot be true
-pub refute : (b : Bool) → (b ≡ true → ⊥) → false ≡ b
-refute true never = absurd (never refl)
-refute false never = refl
-
 pub and-true : (a b : Bool) → b ≡ true → (a and b) ≡ a
 unfolding _and_
 and-true true b e = e

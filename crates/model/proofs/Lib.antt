@@ -1,4 +1,5 @@
 pub mod Choice
+pub mod Loops
 pub mod Words
 pub mod View
 pub mod Rules

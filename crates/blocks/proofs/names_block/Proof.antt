@@ -1,7 +1,7 @@
 -- `blocks::names_block` meets its contract: a size of whole pages is compared by division.
 -- Assumes nothing.
 use native.Mathlib.Omega.{arith}
-use Rattle.blocks.proofs.Loops.{refute}
+use Rattle.model.proofs.Loops.{refute}
 use Rattle.blocks.proofs.Rules.{names-rules, names-divided}
 use Rattle.blocks.proofs.names_block.Statement.{statement}
 use Rattle.blocks.proofs.names_block.Tie as tie

@@ -4,7 +4,7 @@ use mathlib.Core.Path.{sym, _∙_}
 use native.Mathlib.Omega.{arith}
 use borrow.Author.Tests.{eq-eqb, ne-eqb}
 use Rattle.model.specs.Choice.{pick}
-use Rattle.blocks.proofs.Loops.{refute}
+use Rattle.model.proofs.Loops.{refute}
 use Rattle.blocks.proofs.Rules.{permanent-rules, permanent-last}
 use Rattle.blocks.proofs.permanent_keeps.Statement.{statement}
 use Rattle.blocks.proofs.permanent_keeps.Tie as tie

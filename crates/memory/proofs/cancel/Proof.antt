@@ -1,6 +1,6 @@
 -- `memory::cancel` meets its contract: none outstanding, one marked before, and one marked now.
 -- Assumes nothing.
-use Rattle.blocks.proofs.Loops.{no, yes}
+use Rattle.model.proofs.Loops.{no, yes}
 use Rattle.memory.proofs.Answers.{cancel-idle, cancel-again, cancel-marks}
 use borrow.Author.Needs.{needs}
 use Rattle.memory.proofs.cancel.Statement.{statement}

@@ -1,7 +1,7 @@
 -- `memory::report` meets its contract: none outstanding, and the record of the one that is.
 -- Assumes nothing.
 use native.Mathlib.Omega.{arith}
-use Rattle.blocks.proofs.Loops.{no, yes}
+use Rattle.model.proofs.Loops.{no, yes}
 use Rattle.memory.proofs.Answers.{removal-fits, report-none, report-some}
 use borrow.Author.Needs.{needs}
 use Rattle.memory.proofs.report.Statement.{statement}

@@ -7,7 +7,8 @@ use native.Mathlib.Omega.{arith}
 use borrow.Author.Count.{below-none, below-more}
 use Rattle.model.proofs.Choice.{clash, every-at, every-make}
 use Rattle.messages.specs.Id.{idByte}
-use Rattle.messages.proofs.Rules.{refute, zero-byte, other-byte}
+use Rattle.model.proofs.Loops.{refute}
+use Rattle.messages.proofs.Rules.{zero-byte, other-byte}
 use Rattle.messages.proofs.no_zero.Statement.{statement}
 use Rattle.messages.proofs.no_zero.Tie as tie
 

@@ -3,7 +3,7 @@ use Prim.Native.Nat.{_≤_, _-_}
 use mathlib.Core.Path.{_≡_, sym, ap, _∙_}
 use mathlib.Core.Bool.{true, not}
 use Rattle.model.specs.Choice.{every}
-use Rattle.blocks.proofs.Loops.{every-none, every-more, every-all, every-fails}
+use Rattle.model.proofs.Loops.{every-none, every-more, every-all, every-fails}
 use Rattle.requests.specs.Pairs.{samePair, newPair}
 use Rattle.requests.proofs.new_pair.Statement.{statement}
 use Rattle.requests.proofs.new_pair.Tie as tie

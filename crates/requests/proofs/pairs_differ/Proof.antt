@@ -3,7 +3,7 @@ use Prim.Native.Nat.{_≤_, _-_}
 use mathlib.Core.Path.{_≡_, _∙_}
 use mathlib.Core.Bool.{true}
 use Rattle.model.specs.Choice.{every}
-use Rattle.blocks.proofs.Loops.{no, yes, every-none, every-more, every-all, every-fails}
+use Rattle.model.proofs.Loops.{no, yes, every-none, every-more, every-all, every-fails}
 use Rattle.requests.specs.Pairs.{newPair}
 use Rattle.requests.proofs.Laws.{pairs-new}
 use Rattle.requests.proofs.pairs_differ.Statement.{statement}

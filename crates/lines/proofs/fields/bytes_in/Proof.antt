@@ -1,7 +1,14 @@
 use borrow.Author.Needs.{needs}
-use Prim.Native.Nat.{_≤_, _-_}
-use lib.ListN.{length}
-use mathlib.Core.Path.{_≡_}
+use mathlib.Core.Path.{_≡_, refl, sym, ap, _∙_}
+use mathlib.Core.Bool.{true}
+use mathlib.Core.List.{_++_}
+use Prim.Native.Nat.{_-_, _%_, _≤_}
+use native.Mathlib.Omega.{arith}
+use lib.ListN.{length, set, drop, length-set}
+use Rattle.model.specs.Choice.{every, tabulate}
+use Rattle.model.proofs.Loops.{every-none, every-more}
+use Rattle.lines.specs.Fields.{byteOf, isByte}
+use Rattle.lines.proofs.Bytes.{table-more, no-pair, a-pair, none-to-read, odd-to-read, no-room, bad-pair, all-read}
 use Rattle.lines.proofs.fields.bytes_in.Statement.{statement}
 use Rattle.lines.proofs.fields.bytes_in.Tie as tie
 use Rattle.lines.proofs.fields.bytes_in.Reads as reads
@@ -9,90 +16,112 @@ use Rattle.lines.proofs.fields.bytes_in.Lts as lts
 use Rattle.lines.proofs.fields.pair.Reads as pair-reads
 
 abbrev Inv-loop : tie.InvT-loop
-Inv-loop field into₀ count i₀ into i = (i ≤ count) × (length into ≡ length into₀)
+Inv-loop field into₀ count i₀ into i =
+    (i ≤ count) × (length into ≡ length into₀) × (every i (λ k. isByte field k) ≡ true) × (into ≡ tabulate (λ k. byteOf field k) i ++ drop i into₀)
 
 abbrev μ-loop : tie.MeasureT-loop
 μ-loop field into₀ count i₀ into i = count - i
 
--- src/fields.rt:115:9
+-- src/fields.rt:149:9
 returns : tie.Need-returns Inv-loop μ-loop
-returns c = search needs
+returns c = none-to-read _ _ _ (c .if1 .taken)
 
--- src/fields.rt:118:9
+-- src/fields.rt:152:9
 returns-2 : tie.Need-returns-2 Inv-loop μ-loop
-returns-2 c = search needs
+returns-2 c = odd-to-read _ _ _ (c .if2 .taken)
 
--- src/fields.rt:121:5
+-- src/fields.rt:155:9
+returns-3 : tie.Need-returns-3 Inv-loop μ-loop
+returns-3 c = no-room _ _ _ (c .if3 .taken)
+
+-- src/fields.rt:158:5
 loop-holds : tie.Need-loop-holds Inv-loop μ-loop
-loop-holds c = search needs
+unfolding tabulate
+loop-holds c = (omega arith, refl, every-none _, refl)
 
--- src/fields.rt:122:43
+-- src/fields.rt:159:43
 mul-pair : tie.Need-mul-pair Inv-loop μ-loop
 mul-pair c = search needs
 
--- src/fields.rt:122:37
+-- src/fields.rt:159:37
 shared-slice-read-pair : tie.Need-shared-slice-read-pair Inv-loop μ-loop
 shared-slice-read-pair c = search needs
 
--- src/fields.rt:122:57
+-- src/fields.rt:159:57
 mul-pair-2 : tie.Need-mul-pair-2 Inv-loop μ-loop
 mul-pair-2 c = search needs
 
--- src/fields.rt:122:57
+-- src/fields.rt:159:57
 add-pair : tie.Need-add-pair Inv-loop μ-loop
 add-pair c = search needs
 
--- src/fields.rt:122:51
+-- src/fields.rt:159:51
 shared-slice-read-pair-2 : tie.Need-shared-slice-read-pair-2 Inv-loop μ-loop
 shared-slice-read-pair-2 c = search needs
 
--- src/fields.rt:122:32
+-- src/fields.rt:159:32
 pair-requires : tie.Need-pair-requires Inv-loop μ-loop
 pair-requires c κs = search needs
 
--- src/fields.rt:122:27
+-- src/fields.rt:159:27
 enum-known-b : tie.Need-enum-known-b Inv-loop μ-loop
 enum-known-b c = search needs
 
--- src/fields.rt:123:13
+-- src/fields.rt:160:13
 enum-told : tie.Need-enum-told Inv-loop μ-loop
 enum-told c = search needs
 
--- src/fields.rt:123:13
+-- src/fields.rt:160:13
 same-length : tie.Need-same-length Inv-loop μ-loop
-same-length c = search needs
+same-length c = c .before .before .before .before .before .before .loop .inv .1
 
--- src/fields.rt:123:13
-returns-3 : tie.Need-returns-3 Inv-loop μ-loop
-returns-3 c = search needs
+-- src/fields.rt:160:13
+returns-4 : tie.Need-returns-4 Inv-loop μ-loop
+returns-4 c =
+    bad-pair _ _ _ (c .before .before .before .before .before .before .loop .i) (omega arith) (no-pair _ _ (sym (c .before .before .pair .ensures) ∙ c .enum-told .given .1))
 
--- src/fields.rt:125:19
+-- src/fields.rt:162:19
 cast-into : tie.Need-cast-into Inv-loop μ-loop
 cast-into c = search needs
 
--- src/fields.rt:125:9
+-- src/fields.rt:162:9
 slice-write-into : tie.Need-slice-write-into Inv-loop μ-loop
 slice-write-into c = search needs
 
--- src/fields.rt:126:9
+-- src/fields.rt:163:9
 add-i : tie.Need-add-i Inv-loop μ-loop
 add-i c = search needs
 
--- src/fields.rt:121:5
+-- src/fields.rt:158:5
 loop-less : tie.Need-loop-less Inv-loop μ-loop
 loop-less c = search needs
 
--- src/fields.rt:121:5
+-- src/fields.rt:158:5
 loop-again : tie.Need-loop-again Inv-loop μ-loop
-loop-again c = search needs
+loop-again c =
+    let start = c .before .before .before .before .before .before .before .before .before .before .before .before .before in
+    let loop = c .before .before .before .before .before .before .before .loop in
+    let field = start .args .field .now in
+    let into = start .args .into .now in
+    let q = a-pair _ _ _ (sym (c .before .before .before .pair .ensures) ∙ c .before .b .given .1) in
+    let b : c .before .b .given .0 .0 % 256 ≡ byteOf field (loop .i) = omega (arith, q .1, q .2) in (
+      omega arith,
+      length-set (loop .into) (loop .i) (c .before .b .given .0 .0 % 256) ∙ loop .inv .1,
+      every-more _ _ (loop .inv .2) (q .0),
+      ap (λ l. set l (loop .i) (c .before .b .given .0 .0 % 256)) (loop .inv .3)
+          ∙ ap (λ v. set (tabulate (λ k. byteOf field k) (loop .i) ++ drop (loop .i) into) (loop .i) v) b
+          ∙ table-more (λ k. byteOf field k) into (loop .i) (omega (arith, loop .inv .1)),
+    )
 
--- src/fields.rt:112:1
+-- src/fields.rt:144:1
 same-length-2 : tie.Need-same-length-2 Inv-loop μ-loop
-same-length-2 c = search needs
+same-length-2 c = c .before .loop .inv .1
 
--- src/fields.rt:112:1
-returns-4 : tie.Need-returns-4 Inv-loop μ-loop
-returns-4 c = search needs
+-- src/fields.rt:144:1
+returns-5 : tie.Need-returns-5 Inv-loop μ-loop
+returns-5 c =
+    all-read _ _ _ (c .before .loop .i) (c .before .before .before .before .if1 .left) (c .before .before .before .if2 .left)
+    (omega (arith, c .before .before .if3 .left)) (omega arith) (c .before .loop .inv .2) (c .before .loop .inv .3)
 
 pub bytes-in-spec : {M : Type 1} → statement M
 bytes-in-spec =
@@ -102,6 +131,7 @@ bytes-in-spec =
     μ-loop
     returns
     returns-2
+    returns-3
     loop-holds
     mul-pair
     shared-slice-read-pair
@@ -112,11 +142,11 @@ bytes-in-spec =
     enum-known-b
     enum-told
     same-length
-    returns-3
+    returns-4
     cast-into
     slice-write-into
     add-i
     loop-less
     loop-again
     same-length-2
-    returns-4)
+    returns-5)
