@@ -5,10 +5,10 @@
 //! fastest round of each counts.
 
 mod independent_agent;
-mod proved;
+mod proved_agent;
 
 use independent_agent::Independent;
-use proved::Proved;
+use proved_agent::Proved;
 use std::hint::black_box;
 use std::time::Instant;
 

@@ -1,37 +1,38 @@
 //! The proved agent, by its static library. Nothing checks these declarations
-//! against crates/exports but the comparison of results in this program.
+//! against crates/exports but the comparisons of results in this package.
 
-use crate::Agent;
+/// The agent's state.
+pub type Words = [u64; 191];
 
 #[repr(C)]
-struct Started {
-    refusal: u64,
-    state: [u64; 191],
+pub struct Started {
+    pub refusal: u64,
+    pub state: Words,
 }
 
 #[repr(C)]
-struct Answer {
-    refusal: u64,
-    length: usize,
+pub struct Answer {
+    pub refusal: u64,
+    pub length: usize,
 }
 
 #[repr(C)]
-struct Worked {
-    refusal: u64,
-    length: usize,
-    pages: u64,
+pub struct Worked {
+    pub refusal: u64,
+    pub length: usize,
+    pub pages: u64,
 }
 
 #[repr(C)]
-struct Drained {
-    refusal: u64,
-    entries: usize,
+pub struct Drained {
+    pub refusal: u64,
+    pub entries: usize,
 }
 
 extern "C" {
     fn arkelutz_setup(list: *const u64, words: usize) -> Started;
     fn arkelutz_receive(
-        state: *mut [u64; 191],
+        state: *mut Words,
         channel: usize,
         message: *const u8,
         message_bytes: usize,
@@ -41,7 +42,7 @@ extern "C" {
         out_bytes: usize,
     ) -> Answer;
     fn arkelutz_offer(
-        state: *mut [u64; 191],
+        state: *mut Words,
         channel: usize,
         service: usize,
         journal: *mut u64,
@@ -49,8 +50,25 @@ extern "C" {
         out: *mut u8,
         out_bytes: usize,
     ) -> Answer;
+    fn arkelutz_withdraw(
+        state: *mut Words,
+        channel: usize,
+        service: usize,
+        journal: *mut u64,
+        journal_words: usize,
+        out: *mut u8,
+        out_bytes: usize,
+    ) -> Answer;
+    fn arkelutz_close(
+        state: *mut Words,
+        channel: usize,
+        journal: *mut u64,
+        journal_words: usize,
+        out: *mut u8,
+        out_bytes: usize,
+    ) -> Answer;
     fn arkelutz_work(
-        state: *mut [u64; 191],
+        state: *mut Words,
         budget: u64,
         journal: *mut u64,
         journal_words: usize,
@@ -58,104 +76,132 @@ extern "C" {
         out_bytes: usize,
     ) -> Worked;
     fn arkelutz_drain(
-        state: *mut [u64; 191],
+        state: *mut Words,
         journal: *const u64,
         journal_words: usize,
         run: *mut u64,
         run_words: usize,
     ) -> Drained;
+    fn arkelutz_show(
+        state: *const Words,
+        channel: usize,
+        message: *const u8,
+        message_bytes: usize,
+    ) -> usize;
 }
 
-/// 0 is acceptance, any other number the refusal.
-fn outcome<T>(refusal: u64, value: T) -> Result<T, u64> {
-    match refusal {
-        0 => Ok(value),
-        number => Err(number),
+#[inline]
+pub fn setup(list: &[u64]) -> Started {
+    unsafe { arkelutz_setup(list.as_ptr(), list.len()) }
+}
+
+#[inline]
+pub fn receive(
+    state: &mut Words,
+    channel: u64,
+    message: &[u8],
+    journal: &mut [u64],
+    out: &mut [u8],
+) -> Answer {
+    unsafe {
+        arkelutz_receive(
+            state,
+            channel as usize,
+            message.as_ptr(),
+            message.len(),
+            journal.as_mut_ptr(),
+            journal.len(),
+            out.as_mut_ptr(),
+            out.len(),
+        )
     }
 }
 
-pub struct Proved;
-
-impl Agent for Proved {
-    type State = [u64; 191];
-
-    fn setup(list: &[u64]) -> Result<Self::State, u64> {
-        let started = unsafe { arkelutz_setup(list.as_ptr(), list.len()) };
-        outcome(started.refusal, started.state)
+#[inline]
+pub fn offer(
+    state: &mut Words,
+    channel: u64,
+    service: u64,
+    journal: &mut [u64],
+    out: &mut [u8],
+) -> Answer {
+    unsafe {
+        arkelutz_offer(
+            state,
+            channel as usize,
+            service as usize,
+            journal.as_mut_ptr(),
+            journal.len(),
+            out.as_mut_ptr(),
+            out.len(),
+        )
     }
+}
 
-    fn receive(
-        state: &mut Self::State,
-        channel: u64,
-        message: &[u8],
-        journal: &mut [u64],
-        out: &mut [u8],
-    ) -> Result<usize, u64> {
-        let answer = unsafe {
-            arkelutz_receive(
-                state,
-                channel as usize,
-                message.as_ptr(),
-                message.len(),
-                journal.as_mut_ptr(),
-                journal.len(),
-                out.as_mut_ptr(),
-                out.len(),
-            )
-        };
-        outcome(answer.refusal, answer.length)
+#[inline]
+pub fn withdraw(
+    state: &mut Words,
+    channel: u64,
+    service: u64,
+    journal: &mut [u64],
+    out: &mut [u8],
+) -> Answer {
+    unsafe {
+        arkelutz_withdraw(
+            state,
+            channel as usize,
+            service as usize,
+            journal.as_mut_ptr(),
+            journal.len(),
+            out.as_mut_ptr(),
+            out.len(),
+        )
     }
+}
 
-    fn offer(
-        state: &mut Self::State,
-        channel: u64,
-        service: u64,
-        journal: &mut [u64],
-        out: &mut [u8],
-    ) -> Result<usize, u64> {
-        let answer = unsafe {
-            arkelutz_offer(
-                state,
-                channel as usize,
-                service as usize,
-                journal.as_mut_ptr(),
-                journal.len(),
-                out.as_mut_ptr(),
-                out.len(),
-            )
-        };
-        outcome(answer.refusal, answer.length)
+#[inline]
+pub fn close(state: &mut Words, channel: u64, journal: &mut [u64], out: &mut [u8]) -> Answer {
+    unsafe {
+        arkelutz_close(
+            state,
+            channel as usize,
+            journal.as_mut_ptr(),
+            journal.len(),
+            out.as_mut_ptr(),
+            out.len(),
+        )
     }
+}
 
-    fn work(
-        state: &mut Self::State,
-        budget: u64,
-        journal: &mut [u64],
-        out: &mut [u8],
-    ) -> Result<(u64, usize), u64> {
-        let worked = unsafe {
-            arkelutz_work(
-                state,
-                budget,
-                journal.as_mut_ptr(),
-                journal.len(),
-                out.as_mut_ptr(),
-                out.len(),
-            )
-        };
-        outcome(worked.refusal, (worked.pages, worked.length))
+#[inline]
+pub fn work(state: &mut Words, budget: u64, journal: &mut [u64], out: &mut [u8]) -> Worked {
+    unsafe {
+        arkelutz_work(
+            state,
+            budget,
+            journal.as_mut_ptr(),
+            journal.len(),
+            out.as_mut_ptr(),
+            out.len(),
+        )
     }
+}
 
-    fn drain(state: &mut Self::State, journal: &[u64], run: &mut [u64]) -> Result<usize, u64> {
-        let drained = unsafe {
-            arkelutz_drain(
-                state,
-                journal.as_ptr(),
-                journal.len(),
-                run.as_mut_ptr(),
-                run.len(),
-            )
-        };
-        outcome(drained.refusal, drained.entries)
+#[inline]
+pub fn drain(state: &mut Words, journal: &[u64], run: &mut [u64]) -> Drained {
+    unsafe {
+        arkelutz_drain(
+            state,
+            journal.as_ptr(),
+            journal.len(),
+            run.as_mut_ptr(),
+            run.len(),
+        )
     }
+}
+
+/// The length of the part.
+#[inline]
+pub fn show(state: &Words, channel: u64, message: &[u8]) -> usize {
+    unsafe { arkelutz_show(state, channel as usize, message.as_ptr(), message.len()) }
 }

@@ -80,7 +80,7 @@ fn put_removal(text: &mut Text, used: &mut usize, state: &State) {
     output::put_byte(text, used, b'\n');
 }
 
-pub fn put_state(text: &mut Text, used: &mut usize, state: &State) {
+pub(crate) fn put_state(text: &mut Text, used: &mut usize, state: &State) {
     put_channel(text, used, state, 0);
     put_channel(text, used, state, 1);
     put_channel(text, used, state, 2);

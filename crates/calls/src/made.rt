@@ -15,7 +15,7 @@ use model::State;
 const MOST: usize = 16384;
 
 // One or two numbers, `count` in all (the second 0 where one is asked for), or not that.
-pub enum Numbers {
+pub(crate) enum Numbers {
     Are(u64, u64),
     Bad,
 }
@@ -39,7 +39,7 @@ fn words_in(rest: &[u8], list: &mut [u64]) -> Read {
     Read::Count(count)
 }
 
-pub fn exactly(count: usize, rest: &[u8]) -> Numbers {
+pub(crate) fn exactly(count: usize, rest: &[u8]) -> Numbers {
     let mut two = [0u64; 2];
     let Read::Count(found) = words_in(rest, &mut two) else {
         return Numbers::Bad;
@@ -68,7 +68,7 @@ fn channel_and_bytes(rest: &[u8], message: &mut [u8]) -> Numbers {
     Numbers::Are(channel, count as u64)
 }
 
-pub fn setup(rest: &[u8], state: &mut State, text: &mut Text, used: &mut usize) -> bool {
+pub(crate) fn setup(rest: &[u8], state: &mut State, text: &mut Text, used: &mut usize) -> bool {
     let mut list = [0u64; MOST];
     let Read::Count(count) = words_in(rest, &mut list) else {
         return false;
@@ -81,7 +81,7 @@ pub fn setup(rest: &[u8], state: &mut State, text: &mut Text, used: &mut usize) 
     true
 }
 
-pub fn receive(
+pub(crate) fn receive(
     rest: &[u8],
     state: &mut State,
     journal: &mut [u64],
@@ -99,7 +99,7 @@ pub fn receive(
     true
 }
 
-pub fn show(rest: &[u8], state: &State, text: &mut Text, used: &mut usize) -> bool {
+pub(crate) fn show(rest: &[u8], state: &State, text: &mut Text, used: &mut usize) -> bool {
     let mut message = [0u8; MOST];
     let Numbers::Are(channel, count) = channel_and_bytes(rest, &mut message) else {
         return false;
@@ -113,7 +113,7 @@ pub fn show(rest: &[u8], state: &State, text: &mut Text, used: &mut usize) -> bo
     true
 }
 
-pub fn offer(
+pub(crate) fn offer(
     rest: &[u8],
     state: &mut State,
     journal: &mut [u64],
@@ -129,7 +129,7 @@ pub fn offer(
     true
 }
 
-pub fn withdraw(
+pub(crate) fn withdraw(
     rest: &[u8],
     state: &mut State,
     journal: &mut [u64],
@@ -145,7 +145,7 @@ pub fn withdraw(
     true
 }
 
-pub fn close(
+pub(crate) fn close(
     rest: &[u8],
     state: &mut State,
     journal: &mut [u64],
@@ -161,7 +161,7 @@ pub fn close(
     true
 }
 
-pub fn work(
+pub(crate) fn work(
     rest: &[u8],
     state: &mut State,
     journal: &mut [u64],
@@ -177,7 +177,7 @@ pub fn work(
     true
 }
 
-pub fn drain(
+pub(crate) fn drain(
     rest: &[u8],
     state: &mut State,
     journal: &[u64],
@@ -197,7 +197,7 @@ pub fn drain(
     true
 }
 
-pub fn state(rest: &[u8], state: &State, text: &mut Text, used: &mut usize) -> bool {
+pub(crate) fn state(rest: &[u8], state: &State, text: &mut Text, used: &mut usize) -> bool {
     if rest.len() != 0 {
         return false;
     }

@@ -7,6 +7,7 @@ use mathlib.Core.Path.{_≡_}
 use mathlib.Core.List.{List, _++_}
 use lib.ListN.{length, getD, drop}
 use lib.Dec.{ltb, leb, eqb}
+use Rattle.bytes.specs.Bytes.{indexOf, slice}
 use Rattle.model.specs.Choice.{pick, _and_, every, tabulate}
 use Rattle.lines.specs.declared.fields.Number.{Number}
 use Rattle.lines.specs.declared.fields.Number.the-variants.{Value, Bad}
@@ -94,6 +95,10 @@ BytesRead field into r into′ =
     (r ≡ bytesIn field (length into))
     × ((areBytes field and leb (length field / 2) (length into)) ≡ true →
     into′ ≡ tabulate (λ i. byteOf field i) (length field / 2) ++ drop (length field / 2) into)
+
+-- "fields apart by one space": where the field that begins at `from` ends
+abbrev pub endOf : List ℕ → ℕ → ℕ
+endOf line from = from + indexOf 32 (slice from (length line) line)
 
 -- two fields are the same
 unfoldable pub areSame : List ℕ → List ℕ → Bool

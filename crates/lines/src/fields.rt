@@ -4,7 +4,7 @@ ghost use lib.ListN.{length};
 ghost use mathlib.Core.Path.{_≡_};
 ghost use mathlib.Core.Bool.{true, false};
 ghost use Rattle.io.specs.Counts.{Counts};
-ghost use Rattle.lines.specs.Fields.{digitOf, appended, digitsIn, numberIn, pairIn, BytesRead, areSame, isComment, isBlank};
+ghost use Rattle.lines.specs.Fields.{digitOf, appended, digitsIn, numberIn, pairIn, BytesRead, endOf, areSame, isComment, isBlank};
 
 // A number below 2^64, or no number.
 pub enum Number {
@@ -168,17 +168,11 @@ pub fn bytes_in(field: &[u8], into: &mut [u8]) -> Read
 // Where the field that begins at `from` ends: the next space, or the line's end.
 pub fn end_of(line: &[u8], from: usize) -> usize
     requires { ⌜ from ≤ length (now line) ⌝ }
+    ensures { λ r. ⌜ r ≡ endOf (now (line .entry)) from ⌝ }
     ensures { λ r. ⌜ from ≤ r ⌝ }
     ensures { λ r. ⌜ Counts r (now (line .entry)) ⌝ }
 {
-    let mut i = from;
-    while i < line.len() {
-        if line[i] == b' ' {
-            return i;
-        }
-        i += 1;
-    }
-    i
+    bytes::scan::find(line, from, line.len(), b' ')
 }
 
 // The line begins with #.

@@ -4,7 +4,7 @@
 mod actions;
 mod messages;
 mod noise;
-mod random;
+pub mod random;
 mod setups;
 mod text;
 

@@ -22,9 +22,17 @@ impl Random {
         ((u128::from(self.next()) * u128::from(bound)) >> 64) as u64
     }
 
+    /// A number from 0 to `high`, both included.
+    pub fn up_to(&mut self, high: u64) -> u64 {
+        match high.checked_add(1) {
+            Some(bound) => self.below(bound),
+            None => self.next(),
+        }
+    }
+
     /// A number from `low` to `high`, both included.
     pub fn between(&mut self, low: u64, high: u64) -> u64 {
-        low + self.below(high - low + 1)
+        low + self.up_to(high - low)
     }
 
     /// True once in `times` times.

@@ -1,57 +1,19 @@
 use native.Mathlib.Omega.{arith}
 use Rattle.lines.proofs.Counted.{counted}
 use borrow.Author.Needs.{needs}
-use Prim.Native.Nat.{_≤_, _-_}
-use lib.ListN.{length}
 use Rattle.lines.proofs.fields.end_of.Statement.{statement}
 use Rattle.lines.proofs.fields.end_of.Tie as tie
 use Rattle.lines.proofs.fields.end_of.Reads as reads
 use Rattle.lines.proofs.fields.end_of.Lts as lts
+use Rattle.bytes.proofs.scan.find.Reads as find-reads
 
-abbrev Inv-loop : tie.InvT-loop
-Inv-loop line from i₀ i = (from ≤ i) × (i ≤ length line)
+-- src/fields.rt:175:5
+find-requires : tie.Need-find-requires
+find-requires c κs = search needs
 
-abbrev μ-loop : tie.MeasureT-loop
-μ-loop line from i₀ i = length line - i
-
--- src/fields.rt:132:5
-loop-holds : tie.Need-loop-holds Inv-loop μ-loop
-loop-holds c = search needs
-
--- src/fields.rt:133:12
-shared-slice-read-if1 : tie.Need-shared-slice-read-if1 Inv-loop μ-loop
-shared-slice-read-if1 c = search needs
-
--- src/fields.rt:134:13
-returns : tie.Need-returns Inv-loop μ-loop
-returns c = (omega arith, counted _ _ (omega arith))
-
--- src/fields.rt:136:9
-add-i : tie.Need-add-i Inv-loop μ-loop
-add-i c = search needs
-
--- src/fields.rt:132:5
-loop-less : tie.Need-loop-less Inv-loop μ-loop
-loop-less c = search needs
-
--- src/fields.rt:132:5
-loop-again : tie.Need-loop-again Inv-loop μ-loop
-loop-again c = search needs
-
--- src/fields.rt:126:1
-returns-2 : tie.Need-returns-2 Inv-loop μ-loop
-returns-2 c = (omega arith, counted _ _ (omega arith))
+-- src/fields.rt:169:1
+returns : tie.Need-returns
+returns c = (c .find .ensures .0, (omega (arith, c .find .ensures .0), counted _ _ (c .find .ensures .1)))
 
 pub end-of-spec : {M : Type 1} → statement M
-end-of-spec =
-    tie.close
-    (tie.spec
-    Inv-loop
-    μ-loop
-    loop-holds
-    shared-slice-read-if1
-    returns
-    add-i
-    loop-less
-    loop-again
-    returns-2)
+end-of-spec = tie.close (tie.spec find-requires returns)

@@ -1,0 +1,5 @@
+//! The proved agent's static library, and random states and calls on which it
+//! is compared with the independent agent.
+
+pub mod proved;
+pub mod states;

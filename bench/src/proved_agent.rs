@@ -1,0 +1,60 @@
+//! The proved agent as the benchmark calls it.
+
+use crate::Agent;
+use bench::proved::{self, Words};
+
+/// 0 is acceptance, any other number the refusal.
+fn outcome<T>(refusal: u64, value: T) -> Result<T, u64> {
+    match refusal {
+        0 => Ok(value),
+        number => Err(number),
+    }
+}
+
+pub struct Proved;
+
+impl Agent for Proved {
+    type State = Words;
+
+    fn setup(list: &[u64]) -> Result<Self::State, u64> {
+        let started = proved::setup(list);
+        outcome(started.refusal, started.state)
+    }
+
+    fn receive(
+        state: &mut Self::State,
+        channel: u64,
+        message: &[u8],
+        journal: &mut [u64],
+        out: &mut [u8],
+    ) -> Result<usize, u64> {
+        let answer = proved::receive(state, channel, message, journal, out);
+        outcome(answer.refusal, answer.length)
+    }
+
+    fn offer(
+        state: &mut Self::State,
+        channel: u64,
+        service: u64,
+        journal: &mut [u64],
+        out: &mut [u8],
+    ) -> Result<usize, u64> {
+        let answer = proved::offer(state, channel, service, journal, out);
+        outcome(answer.refusal, answer.length)
+    }
+
+    fn work(
+        state: &mut Self::State,
+        budget: u64,
+        journal: &mut [u64],
+        out: &mut [u8],
+    ) -> Result<(u64, usize), u64> {
+        let worked = proved::work(state, budget, journal, out);
+        outcome(worked.refusal, (worked.pages, worked.length))
+    }
+
+    fn drain(state: &mut Self::State, journal: &[u64], run: &mut [u64]) -> Result<usize, u64> {
+        let drained = proved::drain(state, journal, run);
+        outcome(drained.refusal, drained.entries)
+    }
+}

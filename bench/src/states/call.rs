@@ -1,0 +1,141 @@
+//! A call and what it is lent.
+
+use super::{make, message};
+use independent::generate::random::Random;
+use independent::state::{JOURNAL_WORDS, OUTPUT_BYTES};
+use independent::State;
+
+#[derive(Clone, Debug)]
+pub enum Call {
+    Receive(u64, Vec<u8>),
+    Offer(u64, u64),
+    Withdraw(u64, u64),
+    Close(u64),
+    Work(u64),
+    Drain,
+    Show(u64, Vec<u8>),
+}
+
+/// The calls by name, and the refusal numbers that each can have; 0 is
+/// acceptance.
+pub const CALLS: [(&str, &[usize]); 7] = [
+    ("receive", &[0, 1, 2, 3, 4, 5, 8]),
+    ("offer", &[0, 1, 2, 3, 4, 5, 6, 8]),
+    ("withdraw", &[0, 1, 2, 3, 4, 5, 6, 8]),
+    ("close", &[0, 1, 2, 3, 4, 5, 8]),
+    ("work", &[0, 1, 2, 3, 4, 5, 6, 8]),
+    ("drain", &[0, 1, 8]),
+    ("show", &[0]),
+];
+
+impl Call {
+    /// The call's place in CALLS.
+    pub fn number(&self) -> usize {
+        match self {
+            Call::Receive(..) => 0,
+            Call::Offer(..) => 1,
+            Call::Withdraw(..) => 2,
+            Call::Close(..) => 3,
+            Call::Work(..) => 4,
+            Call::Drain => 5,
+            Call::Show(..) => 6,
+        }
+    }
+
+    /// A random call for a state.
+    pub fn random(random: &mut Random, state: &State) -> Call {
+        let channel = place(random);
+        let service = place(random);
+        match random.below(20) {
+            0..=8 => {
+                let channel = answering(random, state).unwrap_or(channel);
+                Call::Receive(channel, message::any(random, state, channel))
+            }
+            9 | 10 => Call::Offer(channel, service),
+            11 | 12 => Call::Withdraw(channel, service),
+            13 => Call::Close(channel),
+            14..=16 => Call::Work(budget(random, state)),
+            17 => Call::Drain,
+            _ => Call::Show(channel, message::for_show(random, state, channel)),
+        }
+    }
+}
+
+/// A channel or service: mostly 0 to 3.
+fn place(random: &mut Random) -> u64 {
+    match random.once_in(30) {
+        true => random.pick(&[4, 5, 1 << 32, u64::MAX]),
+        false => random.below(4),
+    }
+}
+
+/// Mostly a channel on which service 0 is live, if there is one.
+fn answering(random: &mut Random, state: &State) -> Option<u64> {
+    let live = |channel: &u64| state.channels[*channel as usize].services[0].handle();
+    let channels: Vec<u64> = (0..4).filter(|channel| live(channel).is_some()).collect();
+    (!channels.is_empty() && !random.once_in(3)).then(|| random.pick(&channels))
+}
+
+/// A budget: beside its bounds, and beside what remains at the position.
+fn budget(random: &mut Random, state: &State) -> u64 {
+    if random.once_in(15) {
+        return random.pick(&[0, 65_536, u64::MAX]);
+    }
+    let remaining = state.removal.map_or(1, |removal| {
+        let pages = make::pages_at_position(state, &removal).unwrap_or(0);
+        pages.wrapping_sub(removal.collected)
+    });
+    let near = random.pick(&[remaining, remaining, remaining.wrapping_sub(1)]);
+    let few = random.between(1, 12);
+    random.pick(&[1, few, few, near.clamp(1, 65_535), 65_535])
+}
+
+/// The journal, output and run of a call: it is lent the first words or bytes
+/// of each, the rest must stay.
+#[derive(Clone, PartialEq)]
+pub struct Lent {
+    pub journal: [u64; 130],
+    pub output: [u8; 680],
+    pub run: [u64; 132],
+    pub journal_words: usize,
+    pub output_bytes: usize,
+    pub run_words: usize,
+}
+
+impl Lent {
+    pub fn random(random: &mut Random, state: &State) -> Lent {
+        let any = random.up_to(130);
+        let held = state.held.min(64) * 2;
+        let below = held.saturating_sub(1);
+        let run_words = random.pick(&[any, any, held, below, held + 1, 0, 1, 127, 128]);
+        let mut lent = Lent {
+            journal: [0; 130],
+            output: [0; 680],
+            run: [0; 132],
+            journal_words: JOURNAL_WORDS,
+            output_bytes: OUTPUT_BYTES,
+            run_words: run_words as usize,
+        };
+        if random.once_in(25) {
+            lent.journal_words = random.pick(&[127, 129, 0]);
+        }
+        if random.once_in(25) {
+            lent.output_bytes = random.pick(&[671, 671, 673, 0]);
+        }
+        lent.journal.fill_with(|| random.next());
+        lent.run.fill_with(|| random.next());
+        for bytes in lent.output.chunks_exact_mut(8) {
+            bytes.copy_from_slice(&random.next().to_ne_bytes());
+        }
+        lent
+    }
+
+    /// What the call is lent.
+    pub fn parts(&mut self) -> (&mut [u64], &mut [u8], &mut [u64]) {
+        (
+            &mut self.journal[..self.journal_words],
+            &mut self.output[..self.output_bytes],
+            &mut self.run[..self.run_words],
+        )
+    }
+}
