@@ -61,7 +61,7 @@ fn ds_message(ds_type: u32, payload: &[u8]) -> Vec<u8> {
     message
 }
 
-/// A memory request for the first `count` of every `16 / count`-th block.
+/// A memory request of `count` records, for every `16 / count`-th block.
 fn request(memory_type: u32, count: u64, handle: u64) -> Vec<u8> {
     let mut payload = handle.to_be_bytes().to_vec();
     payload.extend(memory_type.to_be_bytes());
@@ -146,7 +146,8 @@ impl<A: Agent> Host<A> {
     }
 }
 
-/// A case: how a host is made ready, the calls of one batch, and how many they are.
+/// A case: the channels that are ready, what comes before the calls, and the
+/// calls of a batch.
 struct Case {
     name: String,
     channels: u64,
@@ -199,7 +200,7 @@ impl Case {
         }
     }
 
-    /// The fastest round's nanoseconds a call, beside the least that it has so far.
+    /// Times a batch, and gives the least nanoseconds a call so far.
     fn round<A: Agent>(&self, host: &mut Host<A>, query: &[u8], least: f64) -> f64 {
         let saved = host.state;
         let mut copies = [saved; BATCH];

@@ -121,7 +121,8 @@ fn memory_name(memory_type: u32) -> &'static str {
     }
 }
 
-/// Counts by name, and the refusals over made states by number.
+/// Counts by name, and the refusals by number of the program bounds, which
+/// has made states too.
 pub struct Counts {
     listed: BTreeMap<String, u64>,
     made: Option<[u64; 9]>,
@@ -291,7 +292,7 @@ impl Counts {
         self.add(format!("STATUS reply {name}"));
     }
 
-    /// Counts the refusals of a text of output lines over made states.
+    /// Counts the refusals of what the program bounds wrote.
     pub fn made(&mut self, text: &str) {
         let made = self.made.get_or_insert([0; 9]);
         for line in text.lines() {
@@ -321,7 +322,7 @@ impl Counts {
             .filter(|name| self.listed[name] == 0);
         let made = self.made.iter().flat_map(|made| {
             let zero = [5, 7, 8].into_iter().filter(|number| made[*number] == 0);
-            zero.map(|number| format!("made states: refusal {number}"))
+            zero.map(|number| format!("bounds: refusal {number}"))
         });
         listed.chain(made).collect()
     }
@@ -345,11 +346,7 @@ impl Display for Counts {
         for (name, count) in &self.listed {
             writeln!(text, "{name:44} {count:>10}")?;
         }
-        writeln!(
-            text,
-            "{:44} {:>10} {:>11}",
-            "refusals", "lists", "made states"
-        )?;
+        writeln!(text, "{:44} {:>10} {:>11}", "refusals", "lists", "bounds")?;
         for number in 1..=8 {
             let lists = self.refusals(number);
             let made = match &self.made {

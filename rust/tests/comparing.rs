@@ -74,6 +74,6 @@ fn made_states_are_counted() {
     .unwrap();
     let output = compare(HOST, &arguments);
     assert_eq!(output.status.code(), Some(1));
-    assert!(text(&output).contains("\nzero: made states: refusal 8\n"));
+    assert!(text(&output).contains("\nzero: bounds: refusal 8\n"));
     std::fs::remove_file(file).unwrap();
 }

@@ -58,8 +58,8 @@ fn counts_of_made_states() {
     let mut counts = Counts::default();
     counts.made("close refused 5\nsetup refused 7\nwork accepted 1\n");
     let zeros = counts.zeros();
-    assert!(zeros.contains(&"made states: refusal 8".to_string()));
-    assert!(!zeros.contains(&"made states: refusal 5".to_string()));
+    assert!(zeros.contains(&"bounds: refusal 8".to_string()));
+    assert!(!zeros.contains(&"bounds: refusal 5".to_string()));
     counts.made("drain refused 8\n");
     assert!(!counts.zeros().iter().any(|name| name.starts_with("made")));
 }

@@ -2,7 +2,9 @@
 // not sound. Then the list of calls in this program's stdin.
 ghost use Prim.Native.Nat.{_<_};
 use calls::answers;
+use calls::answers::Run;
 use lines::output;
+use lines::output::TEXT_BYTES;
 use lines::output::Text;
 use model::State;
 
@@ -41,6 +43,17 @@ fn output_differs(out: &Output) -> bool {
     let mut i: usize = 0;
     while i < 672 {
         if out[i] != BYTE {
+            return true;
+        }
+        i += 1;
+    }
+    false
+}
+
+fn run_differs(run: &Run) -> bool {
+    let mut i: usize = 0;
+    while i < 256 {
+        if run[i] != WORD {
             return true;
         }
         i += 1;
@@ -114,14 +127,18 @@ fn work(before: &State, text: &mut Text, used: &mut usize) {
     check(before, &state, &journal, &out, text, used);
 }
 
+// No entry is held, so that an accepted drain changes nothing either.
 fn drain(before: &State, text: &mut Text, used: &mut usize) {
     let mut state = *before;
     let journal = [WORD; 128];
     let out = [BYTE; 672];
-    let mut run = [0u64; 256];
+    let mut run = [WORD; 256];
     let a = agent::drain(&mut state, &journal, &mut run);
     answers::drained(text, used, a, &run);
     check(before, &state, &journal, &out, text, used);
+    if run_differs(&run) {
+        output::put(text, used, b"the run has changed\n");
+    }
 }
 
 // Data under handle 3, which the sound state has registered for service 1 on channel 2.
@@ -142,7 +159,7 @@ fn each_call(state: &State, text: &mut Text, used: &mut usize) {
 }
 
 // A state of two blocks, the second unconfigured: channel 2 ready, service 0 registered under handle 2, service 1 under 3, service 2 offered under
-// 4; nine entries numbered and none held; a removal of the first block and then the second, under handle 2, with one page of four collected.
+// 4; nine entries numbered and none held; a removal of the first block and then the second, under handle 2, just begun.
 fn sound_state() -> State {
     let list = [0x10000000u64, 4, 0, 0, 1, 0x20000000, 2, 0, 0, 0];
     let started = agent::setup(&list);
@@ -159,7 +176,6 @@ fn sound_state() -> State {
     state[137] = 2;
     state[138] = 2;
     state[140] = 2;
-    state[142] = 1;
     state[143] = 0x10000000;
     state[144] = 0x20000000;
     state[159] = 0x8000;
@@ -167,17 +183,34 @@ fn sound_state() -> State {
     state
 }
 
-// Each call on the sound state with one word changed.
-fn changed(name: &[u8], at: usize, word: u64, text: &mut Text, used: &mut usize)
+// Each call on the sound state with two words changed, so that one clause of soundness does not hold.
+fn changed_two(
+    name: &[u8],
+    at: usize,
+    word: u64,
+    then: usize,
+    other: u64,
+    text: &mut Text,
+    used: &mut usize,
+)
     requires { ⌜ at < 191 ⌝ }
+    requires { ⌜ then < 191 ⌝ }
 {
     let mut state = sound_state();
     state[at] = word;
+    state[then] = other;
     output::put(text, used, name);
     each_call(&state, text, used);
 }
 
-fn channels_and_services(text: &mut Text, used: &mut usize) {
+// The same with one word changed.
+fn changed(name: &[u8], at: usize, word: u64, text: &mut Text, used: &mut usize)
+    requires { ⌜ at < 191 ⌝ }
+{
+    changed_two(name, at, word, at, word, text, used);
+}
+
+fn services(text: &mut Text, used: &mut usize) {
     changed(b"# a channel neither closed nor ready\n", 0, 2, text, used);
     changed(b"# live services on a closed channel\n", 2, 0, text, used);
     changed(
@@ -188,6 +221,13 @@ fn channels_and_services(text: &mut Text, used: &mut usize) {
         used,
     );
     changed(b"# an idle service with a handle\n", 38, 5, text, used);
+    changed(
+        b"# an idle service with a minor version\n",
+        39,
+        1,
+        text,
+        used,
+    );
     changed(
         b"# an offered service with a minor version\n",
         36,
@@ -204,18 +244,10 @@ fn channels_and_services(text: &mut Text, used: &mut usize) {
         text,
         used,
     );
-    changed(
-        b"# a live handle that is another's but for 2^32\n",
-        29,
-        4294967299,
-        text,
-        used,
-    );
     changed(b"# two live handles the same\n", 29, 3, text, used);
 }
 
-fn blocks(text: &mut Text, used: &mut usize) {
-    changed(b"# 17 blocks\n", 52, 17, text, used);
+fn places_of_blocks(text: &mut Text, used: &mut usize) {
     changed(
         b"# a base that is no multiple of 8192\n",
         53,
@@ -224,11 +256,28 @@ fn blocks(text: &mut Text, used: &mut usize) {
         used,
     );
     changed(b"# a block of 0 pages\n", 54, 0, text, used);
-    changed(b"# a block of 1048577 pages\n", 54, 1048577, text, used);
+    changed(b"# a block of 1048577 pages\n", 59, 1048577, text, used);
     changed(
         b"# a block that ends above the base after it\n",
         54,
         32769,
+        text,
+        used,
+    );
+    changed(
+        b"# a block that ends above 2^63\n",
+        58,
+        9223372036854767616,
+        text,
+        used,
+    );
+}
+
+fn permanent_pages(text: &mut Text, used: &mut usize) {
+    changed(
+        b"# permanent pages beyond the block's pages\n",
+        56,
+        5,
         text,
         used,
     );
@@ -247,16 +296,31 @@ fn blocks(text: &mut Text, used: &mut usize) {
         used,
     );
     changed(b"# a block neither configured nor not\n", 57, 2, text, used);
-    changed(
-        b"# a block that ends above 2^63\n",
-        58,
-        9223372036854767616,
-        text,
-        used,
-    );
 }
 
-fn counts_and_removal(text: &mut Text, used: &mut usize) {
+// A state of sixteen blocks of a page each, from 0 on.
+fn sixteen_blocks() -> State {
+    let mut state = [0u64; 191];
+    let mut i: usize = 0;
+    while i < 16 {
+        state[53 + i * 5] = (i * 8192) as u64;
+        state[54 + i * 5] = 1;
+        i += 1;
+    }
+    state
+}
+
+// A count of 17: the words after the sixteenth block, which are the last number and those after it, would make a seventeenth that keeps the rules.
+fn seventeen_blocks(text: &mut Text, used: &mut usize) {
+    let mut state = sixteen_blocks();
+    state[52] = 17;
+    state[133] = 131072;
+    state[134] = 1;
+    output::put(text, used, b"# 17 blocks\n");
+    each_call(&state, text, used);
+}
+
+fn counts(text: &mut Text, used: &mut usize) {
     changed(
         b"# a last number above 4294967295\n",
         133,
@@ -265,8 +329,12 @@ fn counts_and_removal(text: &mut Text, used: &mut usize) {
         used,
     );
     changed(b"# more held than numbered\n", 134, 10, text, used);
+    changed_two(b"# 65 entries held\n", 133, 100, 134, 65, text, used);
     changed(b"# outstanding neither 0 nor 1\n", 135, 2, text, used);
     changed(b"# cancelled neither 0 nor 1\n", 136, 2, text, used);
+}
+
+fn removals(text: &mut Text, used: &mut usize) {
     changed(b"# a removal's channel above 3\n", 137, 4, text, used);
     changed(
         b"# a removal's handle above the last number\n",
@@ -285,35 +353,33 @@ fn counts_and_removal(text: &mut Text, used: &mut usize) {
         used,
     );
     changed(b"# all pages of the block collected\n", 142, 4, text, used);
-    changed(
+    changed_two(
         b"# pages collected where the record names no block\n",
         143,
         0x30000000,
-        text,
-        used,
-    );
-    changed(
-        b"# pages collected of an unconfigured block\n",
-        141,
+        142,
         1,
         text,
         used,
     );
-}
-
-// More than 64 held, and a settled record that is neither OK nor NOWORK.
-fn two_words(text: &mut Text, used: &mut usize) {
-    let mut many = sound_state();
-    many[133] = 100;
-    many[134] = 65;
-    output::put(text, used, b"# 65 entries held\n");
-    each_call(&many, text, used);
-    let mut settled = sound_state();
-    settled[141] = 1;
-    settled[142] = 0;
-    settled[175] = 1;
-    output::put(text, used, b"# a settled record neither OK nor NOWORK\n");
-    each_call(&settled, text, used);
+    changed_two(
+        b"# pages collected of an unconfigured block\n",
+        141,
+        1,
+        142,
+        1,
+        text,
+        used,
+    );
+    changed_two(
+        b"# a settled record neither OK nor NOWORK\n",
+        141,
+        1,
+        175,
+        1,
+        text,
+        used,
+    );
 }
 
 // The last number used, with none held and with 64: 4 is tested before 5, and drain has neither.
@@ -364,14 +430,16 @@ fn unsound_first(text: &mut Text, used: &mut usize) {
 }
 
 fn main() {
-    let mut text = [0u8; 65536];
+    let mut text = [0u8; TEXT_BYTES];
     let mut used: usize = 0;
     output::put(&mut text, &mut used, b"# the state as it is, sound\n");
     show(&sound_state(), &mut text, &mut used);
-    channels_and_services(&mut text, &mut used);
-    blocks(&mut text, &mut used);
-    counts_and_removal(&mut text, &mut used);
-    two_words(&mut text, &mut used);
+    services(&mut text, &mut used);
+    places_of_blocks(&mut text, &mut used);
+    permanent_pages(&mut text, &mut used);
+    seventeen_blocks(&mut text, &mut used);
+    counts(&mut text, &mut used);
+    removals(&mut text, &mut used);
     last_number(&mut text, &mut used);
     last_number_but_one(&mut text, &mut used);
     unsound_first(&mut text, &mut used);

@@ -3,10 +3,12 @@ ghost use Rattle.io.specs.Counts.{Counts};
 use crate::answers;
 use crate::made;
 use crate::made::Numbers;
+use libc::STDERR_FILENO;
 use libc::STDIN_FILENO;
 use lines::fields;
 use lines::fields::Number;
 use lines::output;
+use lines::output::TEXT_BYTES;
 use lines::output::Text;
 use lines::parts::bytes_within;
 use lines::parts::words_within;
@@ -17,8 +19,10 @@ const LONGEST: usize = 32768;
 
 type LineBytes = [u8; LONGEST];
 
-// The words of journal that the host has.
+// The words of journal that the host has, and the bytes of output.
 const WORDS: usize = 200;
+
+const OUTPUT_BYTES: usize = 4096;
 
 type Words = [u64; WORDS];
 
@@ -31,7 +35,7 @@ struct Place {
     output: usize,
 }
 
-// Makes the call of a name other than output and journal.
+// Makes the call of a name; of any other name none.
 fn call(
     name: &[u8],
     rest: &[u8],
@@ -96,18 +100,18 @@ fn answer(
     let name = &line[..end];
     let rest = &line[end..];
     if fields::same(name, b"output") {
-        if let Number::Value(n) = up_to(4096, rest) {
+        if let Number::Value(n) = up_to(OUTPUT_BYTES as u64, rest) {
             next.output = n as usize;
             return next;
         }
     }
     if fields::same(name, b"journal") {
-        if let Number::Value(n) = up_to(200, rest) {
+        if let Number::Value(n) = up_to(WORDS as u64, rest) {
             next.journal = n as usize;
             return next;
         }
     }
-    let mut out = [0u8; 4096];
+    let mut out = [0u8; OUTPUT_BYTES];
     let bytes = bytes_within(place.output, &out);
     let words = words_within(place.journal, journal);
     if !call(
@@ -205,18 +209,21 @@ fn take_piece(
     next
 }
 
-// One read of standard input: the count of bytes, 0 at its end.
+// One read of standard input: the count of bytes, 0 at its end and where it cannot be read.
 fn read(input: &mut [u8]) -> usize
     ensures { λ r. ⌜ Counts r (now (input .exit)) ⌝ }
 {
     let got = libc::read(STDIN_FILENO, input);
+    if got < 0 {
+        io::write_all(STDERR_FILENO, b"the input cannot be read\n");
+    }
     io::count(got, input)
 }
 
 // Answers the list until the input ends. What was read is answered before the next read. The count of reads only lets the loop be proved to end.
 pub fn run() {
     let mut input = [0u8; 65536];
-    let mut text = [0u8; 65536];
+    let mut text = [0u8; TEXT_BYTES];
     let mut line = [0u8; LONGEST];
     let mut journal = [0u64; WORDS];
     let mut state = [0u64; 191];

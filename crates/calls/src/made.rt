@@ -14,7 +14,7 @@ use model::State;
 // A line of at most 32,768 bytes has no more than 16,384 words and no more than 16,384 bytes.
 const MOST: usize = 16384;
 
-// One or two numbers, `count` in all (the second 0 where one is asked for), or not that.
+// Two numbers that a line's fields give (the second 0 where there is one; the count of bytes where there are bytes), or a bad line.
 pub(crate) enum Numbers {
     Are(u64, u64),
     Bad,

@@ -1,14 +1,18 @@
 // Text gathered in a lent array, `used` bytes of it so far, and written out when it is full.
 use crate::parts::bytes_within;
+use libc::STDERR_FILENO;
 use libc::STDOUT_FILENO;
 
-const TEXT_BYTES: usize = 65536;
+pub const TEXT_BYTES: usize = 65536;
 
 pub type Text = [u8; TEXT_BYTES];
 
+// A program of Rattle has no exit status: where the text cannot be written, standard error says so.
 fn write_front(run: &[u8], count: usize) {
     let end = bytes_within(count, run);
-    io::write_all(STDOUT_FILENO, &run[..end]);
+    if !io::write_all(STDOUT_FILENO, &run[..end]) {
+        io::write_all(STDERR_FILENO, b"the output cannot be written\n");
+    }
 }
 
 // Writes out what is gathered.

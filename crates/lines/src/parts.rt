@@ -1,8 +1,11 @@
 // Ends of the front part of a run: `count`, or the run's length where that is less.
-ghost use Prim.Native.Nat.{_≤_};
+ghost use mathlib.Core.Path.{_≡_};
+ghost use Prim.Native.Nat.{min};
+ghost use lib.ListN.{length};
 ghost use Rattle.io.specs.Counts.{Counts};
 
 pub fn bytes_within(count: usize, run: &[u8]) -> usize
+    ensures { λ r. ⌜ r ≡ min count (length (now (run .entry))) ⌝ }
     ensures { λ r. ⌜ Counts r (now (run .entry)) ⌝ }
 {
     if count < run.len() {
@@ -12,6 +15,7 @@ pub fn bytes_within(count: usize, run: &[u8]) -> usize
 }
 
 pub fn words_within(count: usize, run: &[u64]) -> usize
+    ensures { λ r. ⌜ r ≡ min count (length (now (run .entry))) ⌝ }
     ensures { λ r. ⌜ Counts r (now (run .entry)) ⌝ }
 {
     if count < run.len() {
@@ -22,7 +26,7 @@ pub fn words_within(count: usize, run: &[u64]) -> usize
 
 // The lower of two numbers.
 pub fn lower(a: usize, b: usize) -> usize
-    ensures { λ r. ⌜ r ≤ b ⌝ }
+    ensures { λ r. ⌜ r ≡ min a b ⌝ }
 {
     if a < b {
         return a;
