@@ -5,9 +5,11 @@ use mathlib.Core.Path.{_≡_, refl, sym, ap, _∙_}
 use mathlib.Core.Bool.{Bool, true, false}
 use mathlib.Core.List.{List}
 use native.Mathlib.Omega.{arith}
+use native.Mathlib.Nat.{zero-add, suc-add}
+use native.Mathlib.Numerals.{add-one}
 use lib.ListN.{length, getD}
 use lib.Dec.{ltb}
-use borrow.Author.Tests.{lt-ltb, le-ltb, ltb-true, ltb-false}
+use borrow.Author.Tests.{lt-ltb, le-ltb, ltb-true}
 use Rattle.model.specs.Choice.{pick, _and_, every}
 use Rattle.model.proofs.Choice.{clash, on-pick, pick-true, pick-false, both, join, and-false, and-false-right, every-at}
 use Rattle.lines.specs.Fields.{digitOf, baseOf, valueOf, areDigits, isNumber, digitsIn, appended}
@@ -35,15 +37,9 @@ value-grows true field n = omega arith
 value-grows false field n = omega arith
 
 value-from : (h : Bool) (field : List ℕ) (n k : ℕ) → valueOf h field n ≤ valueOf h field (k + n)
-value-from h field n zero = omega (arith, ap (valueOf h field) (none n))
-  where
-    none : (k : ℕ) → 0 + k ≡ k
-    none k = omega arith
+value-from h field n zero = omega (arith, ap (valueOf h field) (zero-add n))
 value-from h field n (suc k) =
-    omega (arith, value-from h field n k, value-grows h field (k + n), ap (valueOf h field) (next k n))
-  where
-    next : (j m : ℕ) → suc j + m ≡ suc (j + m)
-    next j m = omega arith
+    omega (arith, value-from h field n k, value-grows h field (k + n), ap (valueOf h field) (suc-add k n))
 
 value-after : (h : Bool) (field : List ℕ) (n m k : ℕ) → m ≡ k + n → valueOf h field n ≤ valueOf h field m
 value-after h field n m k e = rw (e) (value-from h field n k)
@@ -51,7 +47,7 @@ value-after h field n m k e = rw (e) (value-from h field n k)
 value-least : (h : Bool) (field : List ℕ) (n m : ℕ) → n ≤ m → valueOf h field n ≤ valueOf h field m
 value-least h field n m l = value-after h field n m (m - n) (omega (arith, l))
 
--- a field that has no digit, a byte that is no digit, or a number that reaches 2^64
+-- a field of no bytes is no number
 pub no-digits : (h : Bool) (field : List ℕ) → length field ≡ 0 → Bad ≡ digitsIn h field
 unfolding digitsIn isNumber
 no-digits h field e =
@@ -107,10 +103,7 @@ one-appended h field i v d e =
 pub goes-on : (h : Bool) (field : List ℕ) (i v : ℕ) → areDigits h field i ≡ true → appended h (valueOf h field i) (getD field i 0) ≡ Value v → (v ≡ valueOf h field (i + 1)) × (areDigits h field (i + 1) ≡ true) × (v < 18446744073709551616)
 goes-on h field i v d e =
     let q = one-appended h field i v d e in
-    (q .0 ∙ ap (valueOf h field) (sym (next i)), ap (λ k. areDigits h field k) (next i) ∙ q .1, q .2)
-  where
-    next : (j : ℕ) → j + 1 ≡ suc j
-    next j = omega arith
+    (q .0 ∙ ap (valueOf h field) (sym (add-one i)), ap (λ k. areDigits h field k) (add-one i) ∙ q .1, q .2)
 
 at-end : (h : Bool) (field : List ℕ) (v : ℕ) → (length field ≡ 0 → ⊥) → areDigits h field (length field) ≡ true → v ≡ valueOf h field (length field) → v < 18446744073709551616 → Value v ≡ digitsIn h field
 unfolding digitsIn isNumber

@@ -1,57 +1,58 @@
 use borrow.Author.Needs.{needs}
 use Prim.Native.Nat.{_≤_, _-_}
-use Rattle.bounds.proofs.journal_differs.Statement.{statement}
-use Rattle.bounds.proofs.journal_differs.Tie as tie
-use Rattle.bounds.proofs.journal_differs.Reads as reads
-use Rattle.bounds.proofs.journal_differs.Lts as lts
+use lib.ListN.{length}
+use Rattle.bounds.proofs.words_differ.Statement.{statement}
+use Rattle.bounds.proofs.words_differ.Tie as tie
+use Rattle.bounds.proofs.words_differ.Reads as reads
+use Rattle.bounds.proofs.words_differ.Lts as lts
 
 abbrev Inv-loop : tie.InvT-loop
-Inv-loop journal i₀ i = i ≤ 128
+Inv-loop words i₀ i = i ≤ length words
 
 abbrev μ-loop : tie.MeasureT-loop
-μ-loop journal i₀ i = 128 - i
+μ-loop words i₀ i = length words - i
 
--- src/main.rt:31:5
+-- src/main.rt:33:5
 loop-holds : tie.Need-loop-holds Inv-loop μ-loop
 loop-holds c = search needs
 
--- src/main.rt:32:12
+-- src/main.rt:34:12
 mul-if1 : tie.Need-mul-if1 Inv-loop μ-loop
 mul-if1 c = search needs
 
--- src/main.rt:32:12
-element-copy-out-if1 : tie.Need-element-copy-out-if1 Inv-loop μ-loop
-element-copy-out-if1 c = search needs
+-- src/main.rt:34:12
+shared-slice-read-if1 : tie.Need-shared-slice-read-if1 Inv-loop μ-loop
+shared-slice-read-if1 c = search needs
 
--- src/main.rt:33:13
+-- src/main.rt:35:13
 returns : tie.Need-returns Inv-loop μ-loop
 returns c = search needs
 
--- src/main.rt:35:9
+-- src/main.rt:37:9
 add-i : tie.Need-add-i Inv-loop μ-loop
 add-i c = search needs
 
--- src/main.rt:31:5
+-- src/main.rt:33:5
 loop-less : tie.Need-loop-less Inv-loop μ-loop
 loop-less c = search needs
 
--- src/main.rt:31:5
+-- src/main.rt:33:5
 loop-again : tie.Need-loop-again Inv-loop μ-loop
 loop-again c = search needs
 
--- src/main.rt:29:1
+-- src/main.rt:31:1
 returns-2 : tie.Need-returns-2 Inv-loop μ-loop
 returns-2 c = search needs
 
-pub journal-differs-spec : {M : Type 1} → statement M
-journal-differs-spec =
+pub words-differ-spec : {M : Type 1} → statement M
+words-differ-spec =
     tie.close
     (tie.spec
     Inv-loop
     μ-loop
     loop-holds
     mul-if1
-    element-copy-out-if1
+    shared-slice-read-if1
     returns
     add-i
     loop-less
