@@ -36,7 +36,7 @@ sent way o = pick (eqb (o .count) messageWords) (way (record { first = o .first;
 unfoldable pub begun : List ℕ → List ℕ → ℕ → Exchange
 begun a b id = record { starter = started a id .end; other = b; flight = sent toOther (started a id) }
 
--- "each message sent is received by the other once and in order": the message on its way is received, with a session id for the request that
+-- "no message is lost or repeated": the message on its way is received once, by the end that it is for, with a session id for the request that
 -- may be sent next
 unfoldable pub delivered : Exchange → ℕ → Flight → Exchange
 delivered x id none = x
