@@ -6,6 +6,7 @@
 pub mod agent;
 pub mod block;
 pub mod build;
+pub mod comparing;
 pub mod counts;
 pub mod entry;
 pub mod generate;
