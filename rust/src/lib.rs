@@ -14,6 +14,7 @@ pub mod lines;
 pub mod memory;
 pub mod removal;
 pub mod state;
+pub mod vio;
 pub mod wire;
 
 pub use agent::{close, drain, offer, receive, setup, show, withdraw};
