@@ -150,7 +150,7 @@ fn a_wrong_class_is_refused_with_the_parameters_unchanged() {
 
 #[test]
 fn reserved_bits_are_not_read_and_sent_0() {
-    let set = |[tag, info]: Words| [tag, info | 0xffff_ff << 40];
+    let set = |[tag, info]: Words| [tag, info | 0xff_ffff << 40];
     let mut end = switch(&[(3, 0)]);
     let received = end.receive(0, set(words(INFO, 5, 3, 4)));
     assert_eq!(received.sent, Some(words(ACK, 5, 3, 0)));
@@ -305,18 +305,30 @@ fn a_request_received_resets_any_session() {
     }
 }
 
+/// Both start, under 5 and 6, and receive the requests and then the answers.
+fn crossed(mut one: End, mut other: End) -> [Session; 2] {
+    let (first, second) = (one.start(5), other.start(6));
+    let to_other = one.receive(7, second).sent.unwrap();
+    let to_one = other.receive(8, first).sent.unwrap();
+    assert_eq!(one.receive(7, to_one).sent, None);
+    assert_eq!(other.receive(8, to_other).sent, None);
+    [one.session(), other.session()]
+}
+
 #[test]
 fn crossed_starts_drop_both_requests() {
-    let (mut one, mut other) = (network(&[(3, 4), (1, 0)]), switch(&[(3, 2)]));
-    let (first, second) = (one.start(5), other.start(6));
-    let to_other = one.receive(0, second).sent.unwrap();
-    let to_one = other.receive(0, first).sent.unwrap();
-    assert_eq!(one.session(), agreed(6, 3, 2));
-    assert_eq!(other.session(), agreed(5, 3, 2));
-    assert_eq!(one.receive(0, to_one).sent, None);
-    assert_eq!(other.receive(0, to_other).sent, None);
-    assert_eq!(one.session(), agreed(6, 3, 2));
-    assert_eq!(other.session(), agreed(5, 3, 2));
+    assert_eq!(
+        crossed(network(&[(3, 4), (1, 0)]), switch(&[(3, 2)])),
+        [agreed(6, 3, 2), agreed(5, 3, 2)]
+    );
+    assert_eq!(
+        crossed(network(&[(3, 0), (1, 0)]), switch(&[(1, 0)])),
+        [agreed(6, 1, 0), Session::NoVersion]
+    );
+    assert_eq!(
+        crossed(network(&[(3, 0), (1, 0)]), switch(&[(2, 0), (1, 0)])),
+        [Session::NoVersion, Session::NoVersion]
+    );
 }
 
 #[test]

@@ -41,7 +41,7 @@ fn narrow<T: TryFrom<u64>>(number: u64) -> Option<T> {
 
 /// Pairs of a major and a minor, at least one.
 fn read_versions(numbers: &[u64]) -> Option<Vec<Version>> {
-    if numbers.is_empty() || numbers.len() % 2 != 0 {
+    if numbers.is_empty() || !numbers.len().is_multiple_of(2) {
         return None;
     }
     let pairs = numbers.chunks_exact(2);

@@ -123,7 +123,7 @@ impl End {
             return Err(ListFault::TooMany);
         }
         let mut versions = list.to_vec();
-        versions.sort_by(|one, other| other.major.cmp(&one.major));
+        versions.sort_by_key(|version| std::cmp::Reverse(version.major));
         if versions.iter().any(|version| version.major == 0) {
             return Err(ListFault::MajorZero);
         }
@@ -199,11 +199,11 @@ impl End {
             return (Rule::WrongClass { held }, NACK, asked);
         }
         if let Some(held) = held {
-            let (asked_minor, minor) = (asked.minor, asked.minor.min(held.minor));
             let rule = Rule::Acknowledged {
-                asked: asked_minor,
+                asked: asked.minor,
                 held: held.minor,
             };
+            let minor = asked.minor.min(held.minor);
             return (rule, ACK, Version { minor, ..asked });
         }
         match highest {

@@ -98,8 +98,7 @@ impl Generator {
         self.receive(number, self.past[place]);
     }
 
-    /// An answer to the request that an end has open, or to what it agreed;
-    /// rarely with a field changed.
+    /// An answer to the request that an end has open, or to what it agreed.
     fn made_answer(&mut self) {
         let first = self.either();
         let request = [first, 1 - first].into_iter().find_map(|number| {
@@ -115,16 +114,12 @@ impl Generator {
 
     fn answer(&mut self, request: &Request) -> Words {
         let random = &mut self.random;
-        let (subtype, version) = match random.once_in(3) {
+        let (subtype, version) = match random.once_in(2) {
             true => (ACK, fields::acknowledged(request.version, random)),
             false => (NACK, fields::told(request.version, random)),
         };
         let words = Message::version(subtype, request.sid, request.class, version).pack();
-        match random.weighted(&[50, 15, 35]) {
-            0 => words,
-            1 => fields::with_reserved(words, random),
-            _ => fields::changed(words, random),
-        }
+        fields::sometimes_changed(words, random)
     }
 
     /// A request near the versions that an end holds.
@@ -137,11 +132,7 @@ impl Generator {
         let version = fields::near(self.random.pick(&held), &mut self.random);
         let sid = self.sid();
         let words = Message::version(INFO, sid, class, version).pack();
-        let words = match self.random.weighted(&[70, 15, 15]) {
-            0 => words,
-            1 => fields::with_reserved(words, &mut self.random),
-            _ => fields::changed(words, &mut self.random),
-        };
+        let words = fields::sometimes_changed(words, &mut self.random);
         self.receive(number, words);
     }
 

@@ -74,6 +74,15 @@ fn next_to(number: u16, random: &mut Random) -> u16 {
     }
 }
 
+/// As it is, with reserved bits, or with one field or bit changed.
+pub fn sometimes_changed(words: Words, random: &mut Random) -> Words {
+    match random.weighted(&[55, 15, 30]) {
+        0 => words,
+        1 => with_reserved(words, random),
+        _ => changed(words, random),
+    }
+}
+
 /// One field or one bit changed.
 pub fn changed(words: Words, random: &mut Random) -> Words {
     let mut message = Message::unpack(words);
