@@ -1,5 +1,5 @@
 //! One end of the VIO version handshake, written from ticket 10 and from
-//! section 1.1.2 of document 004 alone. Beside it: two such ends as a program
+//! section 1.1.2 of document 004. Beside it: two such ends as a program
 //! over lines, a generator of random lists of lines, and the counts of what a
 //! list reached.
 
