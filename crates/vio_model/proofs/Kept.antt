@@ -5,7 +5,6 @@ use mathlib.Core.Bool.{true, false}
 use mathlib.Core.List.{List}
 use Prim.Native.Nat.{ℕ, _^_, _≤_, _<_, min}
 use native.Mathlib.Omega.{arith}
-use native.Mathlib.Nat.{min-le-right}
 use lib.Dec.{eqb}
 use borrow.Author.Tests.{eq-eqb, eqb-true, eqb-false, lt-ltb, ltb-true, le-leb, leb-true}
 use Rattle.model.specs.Choice.{pick, _and_}
@@ -100,23 +99,21 @@ module _ (e : End) (able : Able e) where
       on-pick (Good e) (eqb (highestBelow (e .versions) bound) 0) _ _ (λ _. refl)
       (λ z. asks-good id _ i (highest-held (e .versions) bound (countOf (e .versions)) (eqb-false _ _ z) .0))
 
-  requested-good : (m : Message) → InRange m → Good e (requested e m)
+  -- Any session that is kept, and any minor held, would do here, and so `search` and `omega` close it: which ones they are is TwoEnds' claim.
+  requested-good : (m : Message) → InRange m → sessionKeeps (e .versions) (e .session) ≡ true → Good e (requested e m)
   unfolding requested acknowledges tellsLower refusesClass sessionKeeps
-  requested-good m p =
+  requested-good m p k =
       on-pick (Good e) (eqb (m .class) (e .accepts)) _ _
       (λ _. on-pick (Good e) (holds (e .versions) (m .major)) _ _
       (λ h. (
-        agreed-keeps (e .versions) (m .session) (m .major) (p .sessions) h _ (min-le-right (m .minor) _),
-        message-in-range _ _ _ _ _ (omega arith) (p .sessions) (p .classes) (p .majors) (lower (m .major)),
+        agreed-keeps (e .versions) (m .session) (m .major) (p .sessions) h _ (omega arith),
+        message-in-range _ _ _ _ _ (omega arith) (p .sessions) (p .classes) (p .majors) (omega (arith, p .minors, minor-range (e .versions) (able .rules) (m .major))),
       ))
       (λ _. (
-        refl,
+        search,
         message-in-range _ _ _ _ _ (omega arith) (p .sessions) (p .classes) (highest-range (m .major)) (minor-range (e .versions) (able .rules) _),
       )))
-      (λ _. (refl, message-in-range _ _ _ _ _ (omega arith) (p .sessions) (p .classes) (p .majors) (p .minors)))
-    where
-      lower : (k : ℕ) → min (m .minor) (minorOf (e .versions) k) < versionLimit
-      lower k = omega (arith, p .minors)
+      (λ _. (search, message-in-range _ _ _ _ _ (omega arith) (p .sessions) (p .classes) (p .majors) (p .minors)))
 
   answers-good : (next id major minor : ℕ) (m : Message) → next < idLimit → sessionKeeps (e .versions) (Asked id major minor) ≡ true → Good e (answersOpen e next id major minor m)
   unfolding answersOpen acknowledged refused sessionKeeps
@@ -136,7 +133,7 @@ module _ (e : End) (able : Able e) where
   pub heard-good : (next : ℕ) (m : Message) → next < idLimit → InRange m → sessionKeeps (e .versions) (e .session) ≡ true → Good e (heard e next m)
   unfolding heard
   heard-good next m i p k =
-      on-pick (Good e) (isVersion INFO m) _ _ (λ _. requested-good m p) (λ _. go (e .session) k)
+      on-pick (Good e) (isVersion INFO m) _ _ (λ _. requested-good m p k) (λ _. go (e .session) k)
     where
       go : (s : Session) → sessionKeeps (e .versions) s ≡ true → Good e (answered e next s m)
       go Nothing k = unfold answered in tt

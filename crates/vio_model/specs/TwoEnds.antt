@@ -1,6 +1,6 @@
 -- "If two ends accept each other, one starts and no message is lost or repeated, both end with the highest major that both hold and the lower
 -- of its minors, or, if there is none, the starter knows it and the other holds none."
--- The ends are any sound words: any classes and lists, in any earlier session.
+-- The ends are any sound words: any classes and accepted lists, in any earlier session.
 -- Assumes nothing.
 use Prim.Native.Nat.{ℕ, _*_, _^_, _≤_, _<_, min}
 use mathlib.Core.Path.{_≡_}
