@@ -9,8 +9,12 @@
 
 static void show(const char *name, const uint64_t *end)
 {
-    printf("%s stage %" PRIu64 " version %" PRIu64 ".%" PRIu64 " session %" PRIu64 "\n", name, end[ARKELUTZ_VIO_STAGE],
-           end[ARKELUTZ_VIO_MAJOR], end[ARKELUTZ_VIO_MINOR], end[ARKELUTZ_VIO_ID]);
+    if (end[ARKELUTZ_VIO_STAGE] != ARKELUTZ_VIO_AGREED) {
+        printf("%s no version\n", name);
+        return;
+    }
+    printf("%s agreed %" PRIu64 " %" PRIu64 " session %" PRIu64 "\n", name, end[ARKELUTZ_VIO_MAJOR], end[ARKELUTZ_VIO_MINOR],
+           end[ARKELUTZ_VIO_ID]);
 }
 
 int main(void)
@@ -29,7 +33,7 @@ int main(void)
         id += 0x11;
         sent = arkelutz_vio_receive(a.end, ARKELUTZ_VIO_END_WORDS, id, sent.first, sent.second);
     }
-    show("device", a.end);
     show("switch", b.end);
+    show("device", a.end);
     return a.refusal != 0 || b.refusal != 0 || sent.refusal != 0;
 }
