@@ -32,7 +32,7 @@ pub record Exchange : Type 0 where
 unfoldable pub sent : (Words → Flight) → Outcome → Flight
 sent way o = pick (eqb (o .count) messageWords) (way (record { first = o .first; second = o .second })) none
 
--- one starts, with a session id
+-- one starts, with a session id, while no message is on its way
 unfoldable pub begun : List ℕ → List ℕ → ℕ → Exchange
 begun a b id = record { starter = started a id .end; other = b; flight = sent toOther (started a id) }
 
