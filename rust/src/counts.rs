@@ -1,5 +1,6 @@
 //! What a list of calls reached, counted from the input and a host's output.
 
+use crate::comparing::Tally;
 use crate::lines::{Call, Line};
 use crate::memory::{self, QUERY_BYTES, RECORDS_START, RESULT_BYTES};
 use crate::wire::{self, get32, get64};
@@ -137,19 +138,31 @@ impl Default for Counts {
     }
 }
 
-impl Counts {
-    fn add(&mut self, name: String) {
-        *self.listed.entry(name).or_default() += 1;
-    }
-
-    /// Counts an input line and the output lines that a host gave for it.
-    pub fn line(&mut self, line: &[u8], output: &[u8]) {
+impl Tally for Counts {
+    fn line(&mut self, line: &[u8], output: &[u8]) {
         let output = String::from_utf8_lossy(output);
         match Line::read(line) {
             Line::PassedOver => self.add("line passed over".into()),
             Line::Bad => self.add("line bad".into()),
             Line::Call(call) => self.call(&call, &output),
         }
+    }
+
+    fn zeros(&self) -> Vec<String> {
+        let listed = must_reach()
+            .into_iter()
+            .filter(|name| self.listed[name] == 0);
+        let made = self.made.iter().flat_map(|made| {
+            let zero = [5, 7, 8].into_iter().filter(|number| made[*number] == 0);
+            zero.map(|number| format!("bounds: refusal {number}"))
+        });
+        listed.chain(made).collect()
+    }
+}
+
+impl Counts {
+    fn add(&mut self, name: String) {
+        *self.listed.entry(name).or_default() += 1;
     }
 
     fn call(&mut self, call: &Call, output: &str) {
@@ -313,18 +326,6 @@ impl Counts {
             .iter()
             .filter(|(name, _)| name.starts_with(&start));
         named.map(|(_, count)| count).sum()
-    }
-
-    /// The names of the counts that are zero and must not be.
-    pub fn zeros(&self) -> Vec<String> {
-        let listed = must_reach()
-            .into_iter()
-            .filter(|name| self.listed[name] == 0);
-        let made = self.made.iter().flat_map(|made| {
-            let zero = [5, 7, 8].into_iter().filter(|number| made[*number] == 0);
-            zero.map(|number| format!("bounds: refusal {number}"))
-        });
-        listed.chain(made).collect()
     }
 
     /// All calls of lists, `state` not counted.

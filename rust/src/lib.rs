@@ -1,11 +1,13 @@
 //! An agent written from 01-scope.md alone: the guest's end of Domain
 //! Services, the memory reconfiguration service and the journal. Beside it:
 //! the host's line format, a generator of random lists of calls, and the
-//! counts of what a list reached.
+//! counts of what a list reached. `vio` is the version handshake of ticket 10,
+//! with the same.
 
 pub mod agent;
 pub mod block;
 pub mod build;
+pub mod comparing;
 pub mod counts;
 pub mod entry;
 pub mod generate;
@@ -13,6 +15,7 @@ pub mod lines;
 pub mod memory;
 pub mod removal;
 pub mod state;
+pub mod vio;
 pub mod wire;
 
 pub use agent::{close, drain, offer, receive, setup, show, withdraw};

@@ -1,5 +1,6 @@
 //! The generator and the counts.
 
+use independent::comparing::Tally;
 use independent::counts::Counts;
 use independent::generate::generate;
 use independent::lines::{answer, Call, Line};

@@ -3,15 +3,31 @@
 
 mod actions;
 mod messages;
-mod noise;
+pub(crate) mod noise;
 pub mod random;
 mod setups;
-mod text;
+pub(crate) mod text;
 
 use crate::lines::{Call, Host, Line};
 use crate::state::{State, JOURNAL_WORDS, OUTPUT_BYTES, SLOTS};
 use actions::ACTIONS;
 use random::Random;
+use std::io::{self, Write};
+use std::process::ExitCode;
+
+/// The whole of a program `NAME SEED COUNT` that writes a random list.
+pub fn write_list(usage: &str, make: fn(u64, u64) -> Vec<u8>) -> io::Result<ExitCode> {
+    let numbers: Vec<Option<u64>> = std::env::args()
+        .skip(1)
+        .map(|text| text.parse().ok())
+        .collect();
+    let [Some(seed), Some(count)] = numbers[..] else {
+        eprintln!("usage: {usage}");
+        return Ok(ExitCode::from(2));
+    };
+    io::stdout().write_all(&make(seed, count))?;
+    Ok(ExitCode::SUCCESS)
+}
 
 /// A text of `calls` calls from a seed.
 pub fn generate(seed: u64, calls: u64) -> Vec<u8> {
@@ -210,8 +226,8 @@ impl Generator {
     fn trouble(&mut self) {
         if self.random.per_mille(self.mixture.odd_lines) {
             let line = match self.random.once_in(30) {
-                true => noise::long_line(&mut self.random),
-                false => noise::odd_line(&mut self.random),
+                true => noise::long_line(&mut self.random, &noise::LONG),
+                false => noise::odd_line(&mut self.random, &noise::ODD, b"show"),
             };
             self.raw(&line);
         }

@@ -3,7 +3,7 @@
 use super::random::Random;
 use crate::lines::MAX_LINE;
 
-const ODD: [&[u8]; 61] = [
+pub const ODD: [&[u8]; 61] = [
     b"",
     b"\r",
     b" \r",
@@ -67,12 +67,26 @@ const ODD: [&[u8]; 61] = [
     b"setup 0 1  0 0 0",
 ];
 
-/// A line that is hardly ever a call.
-pub fn odd_line(random: &mut Random) -> Vec<u8> {
+/// Beginnings of long lines, and what fills them.
+pub const LONG: [(&[u8], u8); 9] = [
+    (b"receive 1 ", b'0'),
+    (b"receive 0x0 ", b'a'),
+    (b"show 2 ", b'F'),
+    (b"#", b'x'),
+    (b"", b' '),
+    (b"work ", b'0'),
+    (b"work 0x", b'0'),
+    (b"x", b'y'),
+    (b"", b'7'),
+];
+
+/// A line that is hardly ever a call: an odd one, changed or not, any bytes,
+/// or a name many times.
+pub fn odd_line(random: &mut Random, odd: &[&[u8]], name: &[u8]) -> Vec<u8> {
     match random.weighted(&[85, 8, 4, 3]) {
-        0 => random.pick(&ODD).to_vec(),
+        0 => random.pick(odd).to_vec(),
         1 => {
-            let mut line = random.pick(&ODD).to_vec();
+            let mut line = random.pick(odd).to_vec();
             let at = random.between(0, line.len() as u64) as usize;
             line.insert(at, random.pick(b"\0\r\t\x7f\xff\x80~#/:g"));
             line
@@ -83,25 +97,15 @@ pub fn odd_line(random: &mut Random) -> Vec<u8> {
             line.retain(|byte| *byte != b'\n');
             line
         }
-        _ => b"show".repeat(random.between(2, 200) as usize),
+        _ => name.repeat(random.between(2, 200) as usize),
     }
 }
 
 /// A line of about the greatest length: a call, bad, or passed over.
-pub fn long_line(random: &mut Random) -> Vec<u8> {
+pub fn long_line(random: &mut Random, beginnings: &[(&[u8], u8)]) -> Vec<u8> {
     let over = random.pick(&[0, 0, 0, 1, 1, 2, 3, 40_000]);
     let under = random.pick(&[0, 0, 1, 2]);
-    let (start, fill): (&[u8], u8) = random.pick(&[
-        (b"receive 1 ".as_slice(), b'0'),
-        (b"receive 0x0 ", b'a'),
-        (b"show 2 ", b'F'),
-        (b"#", b'x'),
-        (b"", b' '),
-        (b"work ", b'0'),
-        (b"work 0x", b'0'),
-        (b"x", b'y'),
-        (b"", b'7'),
-    ]);
+    let (start, fill) = random.pick(beginnings);
     let mut line = start.to_vec();
     line.resize(MAX_LINE + over - under, fill);
     line

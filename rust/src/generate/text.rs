@@ -29,7 +29,7 @@ pub fn write_call(call: &Call, random: &mut Random, text: &mut Vec<u8>) {
 }
 
 /// A space and a number; a few in hexadecimal or with leading zeros.
-fn write_number(number: u64, random: &mut Random, text: &mut Vec<u8>) {
+pub fn write_number(number: u64, random: &mut Random, text: &mut Vec<u8>) {
     let zeros = random.between(1, 24) as usize;
     let written = match random.weighted(&[940, 25, 15, 10, 10]) {
         0 => format!(" {number}"),

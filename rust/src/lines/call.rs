@@ -1,5 +1,7 @@
 //! One line as a call.
 
+use super::Ask;
+
 /// A drain's run has 0 to 256 words.
 pub const MAX_RUN: u64 = 256;
 /// The lent output has 0 to 4,096 bytes.
@@ -23,10 +25,10 @@ pub enum Call {
     Journal(usize),
 }
 
-impl Call {
-    /// The call that a line is; none for a bad line. A leading, trailing or
-    /// doubled space makes an empty field, which is no name, number or bytes.
-    pub fn read(line: &[u8]) -> Option<Call> {
+impl Ask for Call {
+    /// A leading, trailing or doubled space makes an empty field, which is no
+    /// name, number or bytes.
+    fn from_line(line: &[u8]) -> Option<Call> {
         let mut fields = line.split(|byte| *byte == b' ');
         let name = fields.next()?;
         if name == b"setup" {
@@ -57,7 +59,9 @@ impl Call {
             _ => None,
         }
     }
+}
 
+impl Call {
     /// The name that begins the call's line.
     pub fn name(&self) -> &'static str {
         match self {
@@ -77,7 +81,7 @@ impl Call {
 }
 
 /// A number below 2^64, decimal or with 0x in hexadecimal.
-fn number(field: &[u8]) -> Option<u64> {
+pub fn number(field: &[u8]) -> Option<u64> {
     let (digits, base) = match field.strip_prefix(b"0x") {
         Some(digits) => (digits, 16),
         None => (field, 10),

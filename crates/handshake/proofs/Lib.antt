@@ -1,0 +1,5 @@
+-- Laws that the proofs of this crate's functions share.
+-- Assumes nothing.
+pub mod Laws
+pub mod Contracts
+pub mod Exchanges

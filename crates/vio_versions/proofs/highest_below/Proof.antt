@@ -1,0 +1,58 @@
+-- `vio_versions::highest_below` meets its contract: the major is the highest of the versions passed.
+-- Assumes nothing.
+use native.Mathlib.Omega.{arith}
+use Prim.Native.Nat.{_≤_, _-_}
+use mathlib.Core.Path.{_≡_}
+use Rattle.vio_model.specs.Versions.{highestIn}
+use Rattle.vio_versions.proofs.Turns.{all-done, highest-start, highest-more}
+use Rattle.vio_versions.proofs.highest_below.Statement.{statement}
+use Rattle.vio_versions.proofs.highest_below.Tie as tie
+
+abbrev Inv-loop : tie.InvT-loop
+Inv-loop list bound n highest₀ i₀ highest i = (i ≤ n) × (highest ≡ highestIn list bound i)
+
+abbrev μ-loop : tie.MeasureT-loop
+μ-loop list bound n highest₀ i₀ highest i = n - i
+
+loop-holds : tie.Need-loop-holds Inv-loop μ-loop
+loop-holds c = (omega arith, highest-start _ _)
+
+mul-higher : tie.Need-mul-higher Inv-loop μ-loop
+mul-higher c = omega arith
+
+mul-higher-2 : tie.Need-mul-higher-2 Inv-loop μ-loop
+mul-higher-2 c = omega arith
+
+shared-slice-read-higher : tie.Need-shared-slice-read-higher Inv-loop μ-loop
+shared-slice-read-higher c = omega arith
+
+higher-requires : tie.Need-higher-requires Inv-loop μ-loop
+higher-requires c κs = tt
+
+add-i : tie.Need-add-i Inv-loop μ-loop
+add-i c = omega arith
+
+loop-less : tie.Need-loop-less Inv-loop μ-loop
+loop-less c = omega arith
+
+loop-again : tie.Need-loop-again Inv-loop μ-loop
+loop-again c = (omega arith, highest-more _ _ _ (c .before .before .before .loop .inv .1) (c .higher .ensures))
+
+returns : tie.Need-returns Inv-loop μ-loop
+returns c = all-done (λ k. highestIn (c .before .before .before .args .list .now) (c .before .before .before .args .bound) k) _ _ (c .before .loop .inv .0) (c .loop-test .left) (c .before .loop .inv .1)
+
+pub highest-below-spec : {M : Type 1} → statement M
+highest-below-spec =
+    tie.close
+    (tie.spec
+    Inv-loop
+    μ-loop
+    loop-holds
+    mul-higher
+    mul-higher-2
+    shared-slice-read-higher
+    higher-requires
+    add-i
+    loop-less
+    loop-again
+    returns)

@@ -1,0 +1,59 @@
+-- `vio_versions::holds_in` meets its contract: no version passed has the major.
+-- Assumes nothing.
+use native.Mathlib.Omega.{arith}
+use Prim.Native.Nat.{_≤_, _-_}
+use mathlib.Core.Path.{_≡_, sym}
+use mathlib.Core.Bool.{false}
+use Rattle.vio_model.specs.Versions.{holdsIn}
+use Rattle.vio_versions.proofs.Turns.{all-done, holds-none, holds-passed, holds-found}
+use Rattle.vio_versions.proofs.holds_in.Statement.{statement}
+use Rattle.vio_versions.proofs.holds_in.Tie as tie
+
+abbrev Inv-loop : tie.InvT-loop
+Inv-loop list major n i₀ i = (i ≤ n) × (holdsIn list major i ≡ false)
+
+abbrev μ-loop : tie.MeasureT-loop
+μ-loop list major n i₀ i = n - i
+
+loop-holds : tie.Need-loop-holds Inv-loop μ-loop
+loop-holds c = (omega arith, holds-none _ _)
+
+mul-if1 : tie.Need-mul-if1 Inv-loop μ-loop
+mul-if1 c = omega arith
+
+mul-if1-2 : tie.Need-mul-if1-2 Inv-loop μ-loop
+mul-if1-2 c = omega arith
+
+shared-slice-read-if1 : tie.Need-shared-slice-read-if1 Inv-loop μ-loop
+shared-slice-read-if1 c = omega arith
+
+returns : tie.Need-returns Inv-loop μ-loop
+returns c = holds-found _ _ _ _ (omega arith) (c .if1 .taken)
+
+add-i : tie.Need-add-i Inv-loop μ-loop
+add-i c = omega arith
+
+loop-less : tie.Need-loop-less Inv-loop μ-loop
+loop-less c = omega arith
+
+loop-again : tie.Need-loop-again Inv-loop μ-loop
+loop-again c = (omega arith, holds-passed _ _ _ (c .before .before .before .loop .inv .1) (c .if1 .left))
+
+returns-2 : tie.Need-returns-2 Inv-loop μ-loop
+returns-2 c = all-done (λ k. holdsIn (c .before .before .args .list .now) (c .before .before .args .major) k) _ _ (c .before .loop .inv .0) (c .loop-test .left) (sym (c .before .loop .inv .1))
+
+pub holds-in-spec : {M : Type 1} → statement M
+holds-in-spec =
+    tie.close
+    (tie.spec
+    Inv-loop
+    μ-loop
+    loop-holds
+    mul-if1
+    mul-if1-2
+    shared-slice-read-if1
+    returns
+    add-i
+    loop-less
+    loop-again
+    returns-2)

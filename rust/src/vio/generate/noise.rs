@@ -1,0 +1,93 @@
+//! Lines that are bad, passed over, or near the greatest length.
+
+use crate::generate::noise::{long_line, odd_line};
+use crate::generate::random::Random;
+
+const ODD: [&[u8]; 66] = [
+    b"",
+    b" ",
+    b"   ",
+    b"\r",
+    b"\t",
+    b"#",
+    b"# a comment",
+    b"#state 0",
+    b" # no comment",
+    b"x",
+    b"end",
+    b"end ",
+    b"end 0",
+    b"end 0 1",
+    b"end 0 1 2",
+    b"end 0 1 2 1",
+    b"end 0 1 2 1 0 2",
+    b"end 0 1 2  1 0",
+    b"end 0 1 2 1 0 ",
+    b"end 2 1 2 1 0",
+    b"end 0 256 2 1 0",
+    b"end 0 1 256 1 0",
+    b"end 0 1 0x100 1 0",
+    b"end 0 1 2 65536 0",
+    b"end 0 1 2 1 65536",
+    b"end 0 1 2 1 0 2 0x10000",
+    b"end 0 1 2 0 65536",
+    b"end 0 1 2 1 0 1 0 3",
+    b"end 0 1 2 1 x",
+    b"end 0 1 2 1 -1",
+    b"End 0 1 2 1 0",
+    b"end\t0 1 2 1 0",
+    b"end 0 1 2 1 0\r",
+    b"start",
+    b"start 0",
+    b"start 2 1",
+    b"start 0 4294967296",
+    b"start 0 0x100000000",
+    b"start 0 1 2",
+    b"start  0 1",
+    b"start 0 1 ",
+    b" start 0 1",
+    b"start 0 +1",
+    b"start 0 0X1",
+    b"start 0 0x",
+    b"start 0x2 0",
+    b"start 18446744073709551616 1",
+    b"receive",
+    b"receive 0",
+    b"receive 0 1",
+    b"receive 0 1 2",
+    b"receive 0 1 2 3 4",
+    b"receive 2 1 0x100010101 0x100000001",
+    b"receive 0 4294967296 0x100010101 0x100000001",
+    b"receive 0 1 18446744073709551616 0",
+    b"receive 0 1 0 18446744073709551616",
+    b"receive 0 1 0x10000000000000000 0",
+    b"receive 0 1 0 0x10000000000000000",
+    b"receive 0 1 0000000100010101",
+    b"receive 0 1 000000010001010a 0000000100000001",
+    b"state",
+    b"state ",
+    b"state 2",
+    b"state 0 0",
+    b"state x",
+    b"STATE 0",
+];
+
+/// Beginnings of long lines, and what fills them.
+const LONG: [(&[u8], u8); 8] = [
+    (b"state ", b'0'),
+    (b"start 0 ", b'0'),
+    (b"start 1 0x", b'0'),
+    (b"receive 1 7 0x100010101 0x", b'0'),
+    (b"end 0 1 2 1 0", b' '),
+    (b"#", b'x'),
+    (b"", b' '),
+    (b"x", b'y'),
+];
+
+/// A line that is hardly ever a call.
+pub fn line(random: &mut Random) -> Vec<u8> {
+    match random.once_in(30) {
+        true => long_line(random, &LONG),
+        false => odd_line(random, &ODD, b"start"),
+    }
+}
