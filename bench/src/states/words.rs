@@ -4,25 +4,25 @@
 use crate::proved::Words;
 use independent::block::{BLOCK_WORDS, MAX_BLOCKS};
 use independent::removal::MAX_RECORDS;
-use independent::state::SERVICES;
+use independent::state::{CHANNELS, SERVICES};
 use independent::{Block, Removal, Service, Settled, State};
 use std::ops::Range;
 
-const SERVICE: usize = 4;
+const SERVICE: usize = CHANNELS;
 const SERVICE_WORDS: usize = 3;
-const BLOCK_COUNT: usize = 52;
-const BLOCK: usize = 53;
-const LAST: usize = 133;
-const HELD: usize = 134;
-const OUTSTANDING: usize = 135;
-const CANCELLED: usize = 136;
-const CHANNEL: usize = 137;
-const COUNT: usize = 140;
-const POSITION: usize = 141;
-const ADDRESS: usize = 143;
-const SIZE: usize = 159;
-const RESULT: usize = 175;
-const END: usize = 191;
+const BLOCK_COUNT: usize = SERVICE + CHANNELS * SERVICES * SERVICE_WORDS;
+const BLOCK: usize = BLOCK_COUNT + 1;
+const LAST: usize = BLOCK + MAX_BLOCKS * BLOCK_WORDS;
+const HELD: usize = LAST + 1;
+const OUTSTANDING: usize = HELD + 1;
+const CANCELLED: usize = OUTSTANDING + 1;
+const CHANNEL: usize = CANCELLED + 1;
+const COUNT: usize = CHANNEL + 3;
+const POSITION: usize = COUNT + 1;
+const ADDRESS: usize = POSITION + 2;
+const SIZE: usize = ADDRESS + MAX_RECORDS;
+const RESULT: usize = SIZE + MAX_RECORDS;
+const END: usize = RESULT + MAX_RECORDS;
 
 fn service_words(service: &Service) -> [u64; SERVICE_WORDS] {
     match *service {
@@ -87,23 +87,34 @@ pub fn words_of(state: &State) -> Words {
     words
 }
 
-/// The words that 01 gives no meaning in this state: blocks past the count, a
-/// removal's words while none is outstanding, its records past the count, its
-/// results from the position on.
-fn free(words: &Words) -> [Range<usize>; 4] {
+/// The words of a service that say nothing at its stage: an idle one's handle
+/// and minor version, an offered one's minor version.
+fn free_of_service(words: &Words, stage: usize) -> Range<usize> {
+    let end = stage + SERVICE_WORDS;
+    match words[stage] {
+        0 => stage + 1..end,
+        1 => stage + 2..end,
+        _ => end..end,
+    }
+}
+
+/// The words that 01 gives no meaning in this state: those of services, blocks
+/// past the count, a removal's words while none is outstanding, its records
+/// past the count, its results from the position on.
+fn free(words: &Words) -> Vec<Range<usize>> {
     let taken = |word: usize, most: usize| words[word].min(most as u64) as usize;
-    let blocks = BLOCK + taken(BLOCK_COUNT, MAX_BLOCKS) * BLOCK_WORDS..LAST;
+    let stages = (SERVICE..BLOCK_COUNT).step_by(SERVICE_WORDS);
+    let mut ranges: Vec<_> = stages.map(|stage| free_of_service(words, stage)).collect();
+    ranges.push(BLOCK + taken(BLOCK_COUNT, MAX_BLOCKS) * BLOCK_WORDS..LAST);
     if words[OUTSTANDING] == 0 {
-        return [blocks, CANCELLED..END, END..END, END..END];
+        ranges.push(CANCELLED..END);
+        return ranges;
     }
     let count = taken(COUNT, MAX_RECORDS);
-    let position = taken(POSITION, MAX_RECORDS);
-    [
-        blocks,
-        ADDRESS + count..SIZE,
-        SIZE + count..RESULT,
-        RESULT + position..END,
-    ]
+    ranges.push(ADDRESS + count..SIZE);
+    ranges.push(SIZE + count..RESULT);
+    ranges.push(RESULT + taken(POSITION, MAX_RECORDS)..END);
+    ranges
 }
 
 /// Gives each word without a meaning a value.

@@ -1,5 +1,5 @@
--- What each public function's contract tells a caller is a step of demand 3's list, and nothing is asked of the caller: where a contract in
--- src/ is weakened, this file is refused.
+-- What each public function's contract tells a caller is the contract of demand 3's list, and nothing is asked of the caller: where a contract
+-- in src/ is weakened, this file is refused.
 -- Assumes nothing.
 use contract.Lifetimes.{Lfts}
 use borrow.Fn.Kinds.{Dens, endedOf, resT}
@@ -9,7 +9,7 @@ use Rattle.model.specs.declared.Answer.{Answer}
 use Rattle.model.specs.declared.Started.{Started}
 use Rattle.model.specs.declared.Worked.{Worked}
 use Rattle.model.specs.declared.Drained.{Drained}
-use Rattle.model.specs.Step.{
+use Rattle.model.specs.Contracts.{
   SetupPost,
   ReceivePost,
   OfferPost,
@@ -36,7 +36,7 @@ use Rattle.agent.proofs.drain.Reads as drain-reads
 use Rattle.agent.proofs.show.Kinds as show-kinds
 use Rattle.agent.proofs.show.Reads as show-reads
 
-pub setup-told : (κs : Lfts 1) (a : Dens κs setup-kinds.ps) (r : Started) (e : AtExit (endedOf 1 setup-kinds.ps setup-kinds.r) κs) → setup-reads.Learnt κs a r e → SetupPost (now (a .0)) r
+pub setup-told : (κs : Lfts 1) (a : Dens κs setup-kinds.ps) (r : Started) (e : AtExit (endedOf 1 setup-kinds.ps setup-kinds.r) κs) → setup-reads.Learnt κs a r e → SetupPost (record { blocks = now (a .0) }) r
 setup-told κs a r e p = p
 
 pub setup-asks : (κs : Lfts 1) (a : Dens κs setup-kinds.ps) → setup-reads.Asked κs a

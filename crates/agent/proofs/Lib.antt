@@ -1,3 +1,4 @@
 pub mod Laws
+pub mod Shown
 pub mod Contracts
 pub mod Demand3

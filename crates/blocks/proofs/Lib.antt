@@ -1,4 +1,3 @@
 -- Laws that several proofs cite.
 -- Assumes nothing.
 pub mod Rules
-pub mod Search

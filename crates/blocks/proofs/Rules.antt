@@ -10,16 +10,16 @@ use lib.Dec.{eqb}
 use borrow.Author.Tests.{eqb-true, eqb-false, eq-eqb, leb-true, le-leb}
 use Rattle.blocks.specs.Permanent.{permanentKeeps}
 use Rattle.model.specs.Choice.{pick, _and_, every}
-use Rattle.model.specs.Layout.{Block, blockIn}
-use Rattle.model.specs.Blocks.{sizeOf, endOf, blockKeeps, endBefore, blocksKeep, acceptedList, names}
+use Rattle.model.specs.Layout.{Block, blockIn, blockWords, mostBlocks}
+use Rattle.model.specs.Blocks.{sizeOf, endOf, blockKeeps, endBefore, blocksKeep, acceptedBlocks, names, highestEnd, mostPages, pageSize}
 use Rattle.model.proofs.Choice.{both}
 
 -- where the block lies, and how long it is
 pub record Lies (b : Block) (floor : ℕ) : Type 0 where
-  pub aligned : b .base % 8192 ≡ 0
+  pub aligned : b .base % pageSize ≡ 0
   pub some : 1 ≤ b .pages
-  pub few : b .pages ≤ 1048576
-  pub below : endOf b ≤ 9223372036854775808
+  pub few : b .pages ≤ mostPages
+  pub below : endOf b ≤ highestEnd
   pub above : floor ≤ b .base
 
 -- where those hold, the rules of its permanent pages decide
@@ -49,31 +49,31 @@ module _ (addr size : ℕ) (b : Block) where
   names-rules t = let u = both _ _ t in (eqb-true _ _ (u .0), eqb-true _ _ (u .1))
 
   -- by division, where the size is whole pages
-  pub names-divided : b .base ≡ addr → size % 8192 ≡ 0 → eqb (size / 8192) (b .pages) ≡ names addr size b
+  pub names-divided : b .base ≡ addr → size % pageSize ≡ 0 → eqb (size / pageSize) (b .pages) ≡ names addr size b
   unfolding names _and_
-  names-divided e w = rw (eq-eqb _ _ e) (go (eqb (size / 8192) (b .pages)) refl (eqb (sizeOf b) size) refl)
+  names-divided e w = rw (eq-eqb _ _ e) (go (eqb (size / pageSize) (b .pages)) refl (eqb (sizeOf b) size) refl)
     where
-      go : (x : Bool) → eqb (size / 8192) (b .pages) ≡ x → (y : Bool) → eqb (sizeOf b) size ≡ y → x ≡ y
+      go : (x : Bool) → eqb (size / pageSize) (b .pages) ≡ x → (y : Bool) → eqb (sizeOf b) size ≡ y → x ≡ y
       go true p true q = refl
-      go true p false q = absurd (eqb-false (sizeOf b) size q (omega (arith, eqb-true (size / 8192) (b .pages) p)))
-      go false p true q = absurd (eqb-false (size / 8192) (b .pages) p (omega (arith, eqb-true (sizeOf b) size q)))
+      go true p false q = absurd (eqb-false (sizeOf b) size q (omega (arith, eqb-true (size / pageSize) (b .pages) p)))
+      go false p true q = absurd (eqb-false (size / pageSize) (b .pages) p (omega (arith, eqb-true (sizeOf b) size q)))
       go false p false q = refl
 
 -- a list of blocks
 module _ (l : List ℕ) (at n : ℕ) where
-  pub blocks-rules : blocksKeep l at n ≡ true → n ≤ 16
+  pub blocks-rules : blocksKeep l at n ≡ true → n ≤ mostBlocks
   unfolding blocksKeep
   blocks-rules t = leb-true _ _ (both _ _ t .0)
 
-  pub blocks-last : n ≤ 16 → blocksKeep l at n ≡ every n (λ i. blockKeeps (blockIn l at i) (endBefore l at i))
+  pub blocks-last : n ≤ mostBlocks → blocksKeep l at n ≡ every n (λ i. blockKeeps (blockIn l at i) (endBefore l at i))
   unfolding blocksKeep _and_
   blocks-last h = rw (le-leb _ _ h)
 
 module _ (l : List ℕ) where
-  pub accepted-rules : acceptedList l ≡ true → (length l % 5 ≡ 0) × (length l / 5 ≤ 16)
-  unfolding acceptedList
+  pub accepted-rules : acceptedBlocks l ≡ true → (length l % blockWords ≡ 0) × (length l / blockWords ≤ mostBlocks)
+  unfolding acceptedBlocks
   accepted-rules t = let u = both _ _ t in (eqb-true _ _ (u .0), blocks-rules _ _ _ (u .1))
 
-  pub accepted-last : length l % 5 ≡ 0 → acceptedList l ≡ blocksKeep l 0 (length l / 5)
-  unfolding acceptedList _and_
+  pub accepted-last : length l % blockWords ≡ 0 → acceptedBlocks l ≡ blocksKeep l 0 (length l / blockWords)
+  unfolding acceptedBlocks _and_
   accepted-last e = rw (eq-eqb _ _ e)

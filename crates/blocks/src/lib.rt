@@ -1,32 +1,23 @@
 // "Blocks: 0 to 16, given at setup": the rules of a block list, and the block that a pair names.
+use model::BLOCK_COUNT_WORD;
+use model::BLOCK_WORDS;
+use model::CONFIGURED_PLACE;
+use model::FIRST_BLOCK_WORD;
+use model::FIRST_PLACE;
+use model::Found;
+use model::MOST_BLOCKS;
+use model::PAGES_PLACE;
+use model::PERMANENT_PLACE;
 use model::State;
 ghost use mathlib.Core.Path.{_≡_};
 ghost use Prim.Native.Nat.{_+_, _*_, _≤_};
 ghost use lib.ListN.{length};
 ghost use Rattle.model.specs.Choice.{every};
-ghost use Rattle.model.specs.Layout.{blockIn, blocksOf, firstBlockWord};
-ghost use Rattle.model.specs.Blocks.{blockKeeps, endBefore, blocksKeep, acceptedList, names, namedBlock};
+ghost use Rattle.model.specs.Layout.{mostBlocks, blockWords, blockIn, blocksOf, firstBlockWord};
+ghost use Rattle.model.specs.Blocks.{blockKeeps, endBefore, blocksKeep, acceptedBlocks, names, namedBlock};
 ghost use Rattle.blocks.specs.Permanent.{permanentKeeps};
 
-// The state's words that hold the number of blocks, and block 0; the other blocks follow it.
-pub const BLOCK_COUNT: usize = 52;
-
-pub const FIRST_BLOCK: usize = 53;
-
-// A block's words: its base, and at these places its pages, first permanent page, permanent pages, configured.
-pub const BLOCK_WORDS: usize = 5;
-
-pub const PAGES: usize = 1;
-
-pub const FIRST: usize = 2;
-
-pub const PERMANENT: usize = 3;
-
-pub const CONFIGURED: usize = 4;
-
 pub const PAGE_SIZE: u64 = 8192;
-
-const MOST_BLOCKS: usize = 16;
 
 const MOST_PAGES: u64 = 1048576;
 
@@ -86,7 +77,7 @@ fn block_keeps(
 
 // The `n` blocks whose words stand from `at` on keep the rules, each with the end of the block before it as its floor.
 fn keep_rules(words: &[u64], at: usize, n: usize) -> bool
-    requires { ⌜ (n ≤ 16) × (at + n * 5 ≤ length (now words)) ⌝ }
+    requires { ⌜ (n ≤ mostBlocks) × (at + n * blockWords ≤ length (now words)) ⌝ }
     ensures { λ r. ⌜ r ≡ every n (λ i. blockKeeps (blockIn (now (words .entry)) at i) (endBefore (now (words .entry)) at i)) ⌝ }
 {
     let mut floor: u64 = 0;
@@ -94,13 +85,13 @@ fn keep_rules(words: &[u64], at: usize, n: usize) -> bool
     while i < n {
         let b = at + i * BLOCK_WORDS;
         let base = words[b];
-        let pages = words[b + PAGES];
+        let pages = words[b + PAGES_PLACE];
         if !block_keeps(
             base,
             pages,
-            words[b + FIRST],
-            words[b + PERMANENT],
-            words[b + CONFIGURED],
+            words[b + FIRST_PLACE],
+            words[b + PERMANENT_PLACE],
+            words[b + CONFIGURED_PLACE],
             floor,
         ) {
             return false;
@@ -111,9 +102,9 @@ fn keep_rules(words: &[u64], at: usize, n: usize) -> bool
     true
 }
 
-// Setup accepts the list: whole blocks, at most 16, that keep the rules.
-pub fn accepted_list(l: &[u64]) -> bool
-    ensures { λ r. ⌜ r ≡ acceptedList (now (l .entry)) ⌝ }
+// Whole blocks, not too many, that keep the rules.
+pub fn accepted_blocks(l: &[u64]) -> bool
+    ensures { λ r. ⌜ r ≡ acceptedBlocks (now (l .entry)) ⌝ }
 {
     if l.len() % BLOCK_WORDS != 0 {
         return false;
@@ -125,15 +116,15 @@ pub fn accepted_list(l: &[u64]) -> bool
     keep_rules(l, 0, n)
 }
 
-// The state's blocks keep the rules, and are at most 16.
+// The state's blocks keep the rules, and are not too many.
 pub fn state_blocks_keep(state: &State) -> bool
     ensures { λ r. ⌜ r ≡ blocksKeep (now (state .entry)) firstBlockWord (blocksOf (now (state .entry))) ⌝ }
 {
-    let n = state[BLOCK_COUNT] as usize;
+    let n = state[BLOCK_COUNT_WORD] as usize;
     if MOST_BLOCKS < n {
         return false;
     }
-    keep_rules(state, FIRST_BLOCK, n)
+    keep_rules(state, FIRST_BLOCK_WORD, n)
 }
 
 // "A pair names a block if addr is its base and size is all of it": its other words do not matter. By division, since a product of
@@ -150,19 +141,19 @@ fn names_block(base: u64, pages: u64, addr: u64, size: u64) -> bool
     size / PAGE_SIZE == pages
 }
 
-// The number of the block that the pair names, the number of blocks if there is none.
-pub fn named_block(state: &State, addr: u64, size: u64) -> usize
-    requires { ⌜ blocksOf (now state) ≤ 16 ⌝ }
+// The block that the pair names, if there is one.
+pub fn named_block(state: &State, addr: u64, size: u64) -> Found
+    requires { ⌜ blocksOf (now state) ≤ mostBlocks ⌝ }
     ensures { λ r. ⌜ r ≡ namedBlock (now (state .entry)) addr size ⌝ }
 {
-    let n = state[BLOCK_COUNT] as usize;
+    let n = state[BLOCK_COUNT_WORD] as usize;
     let mut i: usize = 0;
     while i < n {
-        let b = FIRST_BLOCK + i * BLOCK_WORDS;
-        if names_block(state[b], state[b + PAGES], addr, size) {
-            return i;
+        let b = FIRST_BLOCK_WORD + i * BLOCK_WORDS;
+        if names_block(state[b], state[b + PAGES_PLACE], addr, size) {
+            return Found::At { place: i };
         }
         i += 1;
     }
-    n
+    Found::Nowhere
 }

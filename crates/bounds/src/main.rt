@@ -2,15 +2,66 @@
 // not sound. Then the list of calls in this program's stdin.
 ghost use Prim.Native.Nat.{_<_};
 use calls::answers;
+use calls::answers::RUN_WORDS;
 use calls::answers::Run;
 use lines::output;
 use lines::output::TEXT_BYTES;
 use lines::output::Text;
+use model::Answer;
+use model::BLOCK_COUNT_WORD;
+use model::BLOCK_WORDS;
+use model::CANCELLED_WORD;
+use model::CHANNEL_COUNT;
+use model::CHANNEL_WORDS;
+use model::COLLECTED_WORD;
+use model::CONFIGURED_PLACE;
+use model::COUNT_WORD;
+use model::FIRST_ADDRESS_WORD;
+use model::FIRST_BLOCK_WORD;
+use model::FIRST_HANDLE_WORD;
+use model::FIRST_MINOR_WORD;
+use model::FIRST_PLACE;
+use model::FIRST_RESULT_WORD;
+use model::FIRST_SIZE_WORD;
+use model::FIRST_STAGE_WORD;
+use model::HELD_WORD;
+use model::HIGHEST_MINOR;
+use model::HIGHEST_NUMBER;
+use model::JOURNAL_WORDS;
+use model::LAST_WORD;
+use model::MOST_BLOCKS;
+use model::MOST_HELD;
+use model::MOST_RECORDS;
+use model::OFFERED;
+use model::OUTPUT_BYTES;
+use model::OUTSTANDING_WORD;
+use model::PAGES_PLACE;
+use model::PERMANENT_PLACE;
+use model::POSITION_WORD;
+use model::REGISTERED;
+use model::REMOVAL_CHANNEL_WORD;
+use model::REMOVAL_HANDLE_WORD;
+use model::SERVICE_WORDS;
+use model::STATE_WORDS;
 use model::State;
+ghost use Rattle.model.specs.Layout.{stateWords};
 
-type Journal = [u64; 128];
+type Journal = [u64; JOURNAL_WORDS];
 
-type Output = [u8; 672];
+type Output = [u8; OUTPUT_BYTES];
+
+// The words of the services of channel 2: of service 0 the stage, the handle and the minor version. The words of the next service stand
+// SERVICE_WORDS on.
+const STAGE: usize = FIRST_STAGE_WORD + 2 * CHANNEL_WORDS;
+
+const HANDLE: usize = FIRST_HANDLE_WORD + 2 * CHANNEL_WORDS;
+
+const MINOR: usize = FIRST_MINOR_WORD + 2 * CHANNEL_WORDS;
+
+// The words of the first block and of the second.
+const FIRST: usize = FIRST_BLOCK_WORD;
+
+const SECOND: usize = FIRST_BLOCK_WORD + BLOCK_WORDS;
 
 // What every word of the journal and every byte of the output holds before a call.
 const WORD: u64 = 7;
@@ -19,7 +70,7 @@ const BYTE: u8 = 7;
 
 fn states_differ(a: &State, b: &State) -> bool {
     let mut i: usize = 0;
-    while i < 191 {
+    while i < STATE_WORDS {
         if a[i] != b[i] {
             return true;
         }
@@ -41,7 +92,7 @@ fn words_differ(words: &[u64]) -> bool {
 
 fn output_differs(out: &Output) -> bool {
     let mut i: usize = 0;
-    while i < 672 {
+    while i < OUTPUT_BYTES {
         if out[i] != BYTE {
             return true;
         }
@@ -74,20 +125,25 @@ fn check(
     }
 }
 
+// DS_INIT_REQ for version 1.0, received on channel 3.
+fn init(state: &mut State, journal: &mut [u64], out: &mut [u8]) -> Answer {
+    let message = b"\x00\x00\x00\x00\x00\x00\x00\x04\x00\x01\x00\x00";
+    agent::receive(state, 3, message, journal, out)
+}
+
 fn receive(before: &State, text: &mut Text, used: &mut usize) {
     let mut state = *before;
-    let mut journal = [WORD; 128];
-    let mut out = [BYTE; 672];
-    let init_1_0 = b"\x00\x00\x00\x00\x00\x00\x00\x04\x00\x01\x00\x00";
-    let a = agent::receive(&mut state, 3, init_1_0, &mut journal, &mut out);
+    let mut journal = [WORD; JOURNAL_WORDS];
+    let mut out = [BYTE; OUTPUT_BYTES];
+    let a = init(&mut state, &mut journal, &mut out);
     answers::answered(text, used, b"receive", a, &out);
     check(before, &state, &journal, &out, text, used);
 }
 
 fn offer(before: &State, text: &mut Text, used: &mut usize) {
     let mut state = *before;
-    let mut journal = [WORD; 128];
-    let mut out = [BYTE; 672];
+    let mut journal = [WORD; JOURNAL_WORDS];
+    let mut out = [BYTE; OUTPUT_BYTES];
     let a = agent::offer(&mut state, 2, 3, &mut journal, &mut out);
     answers::answered(text, used, b"offer", a, &out);
     check(before, &state, &journal, &out, text, used);
@@ -95,8 +151,8 @@ fn offer(before: &State, text: &mut Text, used: &mut usize) {
 
 fn withdraw(before: &State, text: &mut Text, used: &mut usize) {
     let mut state = *before;
-    let mut journal = [WORD; 128];
-    let mut out = [BYTE; 672];
+    let mut journal = [WORD; JOURNAL_WORDS];
+    let mut out = [BYTE; OUTPUT_BYTES];
     let a = agent::withdraw(&mut state, 2, 0, &mut journal, &mut out);
     answers::answered(text, used, b"withdraw", a, &out);
     check(before, &state, &journal, &out, text, used);
@@ -104,8 +160,8 @@ fn withdraw(before: &State, text: &mut Text, used: &mut usize) {
 
 fn close(before: &State, text: &mut Text, used: &mut usize) {
     let mut state = *before;
-    let mut journal = [WORD; 128];
-    let mut out = [BYTE; 672];
+    let mut journal = [WORD; JOURNAL_WORDS];
+    let mut out = [BYTE; OUTPUT_BYTES];
     let a = agent::close(&mut state, 1, &mut journal, &mut out);
     answers::answered(text, used, b"close", a, &out);
     check(before, &state, &journal, &out, text, used);
@@ -113,8 +169,8 @@ fn close(before: &State, text: &mut Text, used: &mut usize) {
 
 fn work(before: &State, text: &mut Text, used: &mut usize) {
     let mut state = *before;
-    let mut journal = [WORD; 128];
-    let mut out = [BYTE; 672];
+    let mut journal = [WORD; JOURNAL_WORDS];
+    let mut out = [BYTE; OUTPUT_BYTES];
     let a = agent::work(&mut state, 1, &mut journal, &mut out);
     answers::worked(text, used, a, &out);
     check(before, &state, &journal, &out, text, used);
@@ -123,9 +179,9 @@ fn work(before: &State, text: &mut Text, used: &mut usize) {
 // No entry is held, so that an accepted drain changes nothing either.
 fn drain(before: &State, text: &mut Text, used: &mut usize) {
     let mut state = *before;
-    let journal = [WORD; 128];
-    let out = [BYTE; 672];
-    let mut run = [WORD; 256];
+    let journal = [WORD; JOURNAL_WORDS];
+    let out = [BYTE; OUTPUT_BYTES];
+    let mut run = [WORD; RUN_WORDS];
     let a = agent::drain(&mut state, &journal, &mut run);
     answers::drained(text, used, a, &run);
     check(before, &state, &journal, &out, text, used);
@@ -158,21 +214,21 @@ fn sound_state() -> State {
     let started = agent::setup(&list);
     let mut state = started.state;
     state[2] = 1;
-    state[28] = 2;
-    state[29] = 2;
-    state[31] = 2;
-    state[32] = 3;
-    state[34] = 1;
-    state[35] = 4;
-    state[133] = 9;
-    state[135] = 1;
-    state[137] = 2;
-    state[138] = 2;
-    state[140] = 2;
-    state[143] = 0x10000000;
-    state[144] = 0x20000000;
-    state[159] = 0x8000;
-    state[160] = 0x4000;
+    state[STAGE] = REGISTERED;
+    state[HANDLE] = 2;
+    state[STAGE + SERVICE_WORDS] = REGISTERED;
+    state[HANDLE + SERVICE_WORDS] = 3;
+    state[STAGE + 2 * SERVICE_WORDS] = OFFERED;
+    state[HANDLE + 2 * SERVICE_WORDS] = 4;
+    state[LAST_WORD] = 9;
+    state[OUTSTANDING_WORD] = 1;
+    state[REMOVAL_CHANNEL_WORD] = 2;
+    state[REMOVAL_HANDLE_WORD] = 2;
+    state[COUNT_WORD] = 2;
+    state[FIRST_ADDRESS_WORD] = 0x10000000;
+    state[FIRST_ADDRESS_WORD + 1] = 0x20000000;
+    state[FIRST_SIZE_WORD] = 0x8000;
+    state[FIRST_SIZE_WORD + 1] = 0x4000;
     state
 }
 
@@ -186,8 +242,8 @@ fn changed_two(
     text: &mut Text,
     used: &mut usize,
 )
-    requires { ⌜ at < 191 ⌝ }
-    requires { ⌜ then < 191 ⌝ }
+    requires { ⌜ at < stateWords ⌝ }
+    requires { ⌜ then < stateWords ⌝ }
 {
     let mut state = sound_state();
     state[at] = word;
@@ -198,7 +254,7 @@ fn changed_two(
 
 // The same with one word changed.
 fn changed(name: &[u8], at: usize, word: u64, text: &mut Text, used: &mut usize)
-    requires { ⌜ at < 191 ⌝ }
+    requires { ⌜ at < stateWords ⌝ }
 {
     changed_two(name, at, word, at, word, text, used);
 }
@@ -208,58 +264,116 @@ fn services(text: &mut Text, used: &mut usize) {
     changed(b"# live services on a closed channel\n", 2, 0, text, used);
     changed(
         b"# a service neither idle, offered nor registered\n",
-        28,
+        STAGE,
         3,
         text,
         used,
     );
-    changed(b"# an idle service with a handle\n", 38, 5, text, used);
     changed(
-        b"# an idle service with a minor version\n",
-        39,
-        1,
+        b"# a minor version above 65535\n",
+        MINOR,
+        HIGHEST_MINOR + 1,
         text,
         used,
     );
-    changed(
-        b"# an offered service with a minor version\n",
-        36,
-        1,
-        text,
-        used,
-    );
-    changed(b"# a minor version above 65535\n", 30, 65536, text, used);
-    changed(b"# a live handle 0\n", 29, 0, text, used);
+    changed(b"# a live handle 0\n", HANDLE, 0, text, used);
     changed(
         b"# a live handle above the last number\n",
-        29,
+        HANDLE,
         10,
         text,
         used,
     );
-    changed(b"# two live handles the same\n", 29, 3, text, used);
+    changed(b"# two live handles the same\n", HANDLE, 3, text, used);
+}
+
+// A word that says nothing in this state may hold anything: a receive is accepted and its entry drained.
+fn unread(name: &[u8], at: usize, text: &mut Text, used: &mut usize)
+    requires { ⌜ at < stateWords ⌝ }
+{
+    let mut state = sound_state();
+    let mut journal = [0u64; JOURNAL_WORDS];
+    let mut out = [0u8; OUTPUT_BYTES];
+    let mut run = [0u64; RUN_WORDS];
+    state[at] = 18446744073709551615;
+    output::put(text, used, name);
+    let a = init(&mut state, &mut journal, &mut out);
+    answers::answered(text, used, b"receive", a, &out);
+    let b = agent::drain(&mut state, &journal, &mut run);
+    answers::drained(text, used, b, &run);
+}
+
+fn unread_words(text: &mut Text, used: &mut usize) {
+    unread(
+        b"# an idle service with a handle\n",
+        HANDLE + 3 * SERVICE_WORDS,
+        text,
+        used,
+    );
+    unread(
+        b"# an idle service with a minor version\n",
+        MINOR + 3 * SERVICE_WORDS,
+        text,
+        used,
+    );
+    unread(
+        b"# an offered service with a minor version\n",
+        MINOR + 2 * SERVICE_WORDS,
+        text,
+        used,
+    );
+    unread(
+        b"# a third block's base, where two are held\n",
+        SECOND + BLOCK_WORDS,
+        text,
+        used,
+    );
+    unread(
+        b"# a third record's address, in a removal of two\n",
+        FIRST_ADDRESS_WORD + 2,
+        text,
+        used,
+    );
+    unread(
+        b"# the result of a record that is not settled\n",
+        FIRST_RESULT_WORD,
+        text,
+        used,
+    );
 }
 
 fn places_of_blocks(text: &mut Text, used: &mut usize) {
     changed(
         b"# a base that is no multiple of 8192\n",
-        53,
+        FIRST,
         0x10000001,
         text,
         used,
     );
-    changed(b"# a block of 0 pages\n", 54, 0, text, used);
-    changed(b"# a block of 1048577 pages\n", 59, 1048577, text, used);
+    changed(
+        b"# a block of 0 pages\n",
+        FIRST + PAGES_PLACE,
+        0,
+        text,
+        used,
+    );
+    changed(
+        b"# a block of 1048577 pages\n",
+        SECOND + PAGES_PLACE,
+        1048577,
+        text,
+        used,
+    );
     changed(
         b"# a block that ends above the base after it\n",
-        54,
+        FIRST + PAGES_PLACE,
         32769,
         text,
         used,
     );
     changed(
         b"# a block that ends above 2^63\n",
-        58,
+        SECOND,
         9223372036854767616,
         text,
         used,
@@ -269,35 +383,41 @@ fn places_of_blocks(text: &mut Text, used: &mut usize) {
 fn permanent_pages(text: &mut Text, used: &mut usize) {
     changed(
         b"# permanent pages beyond the block's pages\n",
-        56,
+        FIRST + PERMANENT_PLACE,
         5,
         text,
         used,
     );
     changed(
         b"# a first permanent page with a count of 0\n",
-        55,
+        FIRST + FIRST_PLACE,
         1,
         text,
         used,
     );
     changed(
         b"# permanent pages in an unconfigured block\n",
-        61,
+        SECOND + PERMANENT_PLACE,
         1,
         text,
         used,
     );
-    changed(b"# a block neither configured nor not\n", 57, 2, text, used);
+    changed(
+        b"# a block neither configured nor not\n",
+        FIRST + CONFIGURED_PLACE,
+        2,
+        text,
+        used,
+    );
 }
 
 // A state of sixteen blocks of a page each, from 0 on.
 fn sixteen_blocks() -> State {
-    let mut state = [0u64; 191];
+    let mut state = [0u64; STATE_WORDS];
     let mut i: usize = 0;
-    while i < 16 {
-        state[53 + i * 5] = (i * 8192) as u64;
-        state[54 + i * 5] = 1;
+    while i < MOST_BLOCKS {
+        state[FIRST_BLOCK_WORD + i * BLOCK_WORDS] = (i * 8192) as u64;
+        state[FIRST_BLOCK_WORD + i * BLOCK_WORDS + PAGES_PLACE] = 1;
         i += 1;
     }
     state
@@ -306,9 +426,9 @@ fn sixteen_blocks() -> State {
 // A count of 17: the words after the sixteenth block, which are the last number and those after it, would make a seventeenth that keeps the rules.
 fn seventeen_blocks(text: &mut Text, used: &mut usize) {
     let mut state = sixteen_blocks();
-    state[52] = 17;
-    state[133] = 131072;
-    state[134] = 1;
+    state[BLOCK_COUNT_WORD] = MOST_BLOCKS as u64 + 1;
+    state[LAST_WORD] = 131072;
+    state[HELD_WORD] = 1;
     output::put(text, used, b"# 17 blocks\n");
     each_call(&state, text, used);
 }
@@ -316,59 +436,97 @@ fn seventeen_blocks(text: &mut Text, used: &mut usize) {
 fn counts(text: &mut Text, used: &mut usize) {
     changed(
         b"# a last number above 4294967295\n",
-        133,
-        4294967296,
+        LAST_WORD,
+        HIGHEST_NUMBER + 1,
         text,
         used,
     );
-    changed(b"# more held than numbered\n", 134, 10, text, used);
-    changed_two(b"# 65 entries held\n", 133, 100, 134, 65, text, used);
-    changed(b"# outstanding neither 0 nor 1\n", 135, 2, text, used);
-    changed(b"# cancelled neither 0 nor 1\n", 136, 2, text, used);
+    changed(b"# more held than numbered\n", HELD_WORD, 10, text, used);
+    changed_two(
+        b"# 65 entries held\n",
+        LAST_WORD,
+        100,
+        HELD_WORD,
+        65,
+        text,
+        used,
+    );
+    changed(
+        b"# outstanding neither 0 nor 1\n",
+        OUTSTANDING_WORD,
+        2,
+        text,
+        used,
+    );
+    changed(
+        b"# cancelled neither 0 nor 1\n",
+        CANCELLED_WORD,
+        2,
+        text,
+        used,
+    );
 }
 
 fn removals(text: &mut Text, used: &mut usize) {
-    changed(b"# a removal's channel above 3\n", 137, 4, text, used);
+    changed(
+        b"# a removal's channel above 3\n",
+        REMOVAL_CHANNEL_WORD,
+        CHANNEL_COUNT as u64,
+        text,
+        used,
+    );
     changed(
         b"# a removal's handle above the last number\n",
-        138,
+        REMOVAL_HANDLE_WORD,
         10,
         text,
         used,
     );
-    changed(b"# a removal of 0 records\n", 140, 0, text, used);
-    changed(b"# a removal of 17 records\n", 140, 17, text, used);
+    changed(b"# a removal of 0 records\n", COUNT_WORD, 0, text, used);
+    changed(
+        b"# a removal of 17 records\n",
+        COUNT_WORD,
+        MOST_RECORDS as u64 + 1,
+        text,
+        used,
+    );
     changed(
         b"# a position above the records' count\n",
-        141,
+        POSITION_WORD,
         3,
         text,
         used,
     );
-    changed(b"# all pages of the block collected\n", 142, 4, text, used);
+    changed(
+        b"# all pages of the block collected\n",
+        COLLECTED_WORD,
+        4,
+        text,
+        used,
+    );
     changed_two(
         b"# pages collected where the record names no block\n",
-        143,
+        FIRST_ADDRESS_WORD,
         0x30000000,
-        142,
+        COLLECTED_WORD,
         1,
         text,
         used,
     );
     changed_two(
         b"# pages collected of an unconfigured block\n",
-        141,
+        POSITION_WORD,
         1,
-        142,
+        COLLECTED_WORD,
         1,
         text,
         used,
     );
     changed_two(
         b"# a settled record neither OK nor NOWORK\n",
-        141,
+        POSITION_WORD,
         1,
-        175,
+        FIRST_RESULT_WORD,
         1,
         text,
         used,
@@ -378,10 +536,10 @@ fn removals(text: &mut Text, used: &mut usize) {
 // The last number used, with none held and with 64: 4 is tested before 5, and drain has neither.
 fn last_number(text: &mut Text, used: &mut usize) {
     let mut state = sound_state();
-    state[133] = 4294967295;
+    state[LAST_WORD] = HIGHEST_NUMBER;
     output::put(text, used, b"# entry number 4294967295 used\n");
     each_call(&state, text, used);
-    state[134] = 64;
+    state[HELD_WORD] = MOST_HELD;
     output::put(
         text,
         used,
@@ -394,10 +552,10 @@ fn last_number(text: &mut Text, used: &mut usize) {
 // The last number but one is used: one more call is accepted, and the next is refused.
 fn last_number_but_one(text: &mut Text, used: &mut usize) {
     let mut state = sound_state();
-    let mut journal = [0u64; 128];
-    let mut out = [0u8; 672];
-    let mut run = [0u64; 256];
-    state[133] = 4294967294;
+    let mut journal = [0u64; JOURNAL_WORDS];
+    let mut out = [0u8; OUTPUT_BYTES];
+    let mut run = [0u64; RUN_WORDS];
+    state[LAST_WORD] = HIGHEST_NUMBER - 1;
     output::put(text, used, b"# entry number 4294967294 used\n");
     let a = agent::close(&mut state, 1, &mut journal, &mut out);
     answers::answered(text, used, b"close", a, &out);
@@ -410,9 +568,9 @@ fn last_number_but_one(text: &mut Text, used: &mut usize) {
 // 8 is tested before 1, 2 and 3.
 fn unsound_first(text: &mut Text, used: &mut usize) {
     let mut state = sound_state();
-    let mut journal = [0u64; 127];
-    let mut out = [0u8; 671];
-    state[134] = 10;
+    let mut journal = [0u64; JOURNAL_WORDS - 1];
+    let mut out = [0u8; OUTPUT_BYTES - 1];
+    state[HELD_WORD] = 10;
     output::put(
         text,
         used,
@@ -428,6 +586,7 @@ fn main() {
     output::put(&mut text, &mut used, b"# the state as it is, sound\n");
     show(&sound_state(), &mut text, &mut used);
     services(&mut text, &mut used);
+    unread_words(&mut text, &mut used);
     places_of_blocks(&mut text, &mut used);
     permanent_pages(&mut text, &mut used);
     seventeen_blocks(&mut text, &mut used);

@@ -2,6 +2,6 @@
 pub mod answers;
 mod list;
 mod listing;
-mod made;
+mod parsed;
 
 pub use list::run;

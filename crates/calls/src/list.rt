@@ -1,8 +1,8 @@
 // The list of calls on standard input, answered on standard output. Input and output go in pieces of up to 65,536 bytes.
 ghost use Rattle.io.specs.Counts.{Counts};
 use crate::answers;
-use crate::made;
-use crate::made::Numbers;
+use crate::parsed;
+use crate::parsed::Numbers;
 use libc::STDERR_FILENO;
 use libc::STDIN_FILENO;
 use lines::fields;
@@ -12,6 +12,9 @@ use lines::output::TEXT_BYTES;
 use lines::output::Text;
 use lines::parts::bytes_within;
 use lines::parts::words_within;
+use model::JOURNAL_WORDS;
+use model::OUTPUT_BYTES;
+use model::STATE_WORDS;
 use model::State;
 
 // The longest line, without its line end.
@@ -19,12 +22,12 @@ const LONGEST: usize = 32768;
 
 type LineBytes = [u8; LONGEST];
 
-// The words of journal that the host has, and the bytes of output.
-const WORDS: usize = 200;
+// The most words of journal and bytes of output that a list can have the calls lent.
+const MOST_JOURNAL: usize = 200;
 
-const OUTPUT_BYTES: usize = 4096;
+const MOST_OUTPUT: usize = 4096;
 
-type Words = [u64; WORDS];
+type Journal = [u64; MOST_JOURNAL];
 
 // Where the host stands: the bytes of the line so far (above LONGEST: too long), the lines ended so far, and the words of journal and bytes of
 // output that the calls are lent.
@@ -46,38 +49,38 @@ fn call(
     used: &mut usize,
 ) -> bool {
     if fields::same(name, b"receive") {
-        return made::receive(rest, state, journal, out, text, used);
+        return parsed::receive(rest, state, journal, out, text, used);
     }
     if fields::same(name, b"work") {
-        return made::work(rest, state, journal, out, text, used);
+        return parsed::work(rest, state, journal, out, text, used);
     }
     if fields::same(name, b"drain") {
-        return made::drain(rest, state, journal, text, used);
+        return parsed::drain(rest, state, journal, text, used);
     }
     if fields::same(name, b"offer") {
-        return made::offer(rest, state, journal, out, text, used);
+        return parsed::offer(rest, state, journal, out, text, used);
     }
     if fields::same(name, b"withdraw") {
-        return made::withdraw(rest, state, journal, out, text, used);
+        return parsed::withdraw(rest, state, journal, out, text, used);
     }
     if fields::same(name, b"close") {
-        return made::close(rest, state, journal, out, text, used);
+        return parsed::close(rest, state, journal, out, text, used);
     }
     if fields::same(name, b"show") {
-        return made::show(rest, state, text, used);
+        return parsed::show(rest, state, text, used);
     }
     if fields::same(name, b"state") {
-        return made::state(rest, state, text, used);
+        return parsed::state(rest, state, text, used);
     }
     if fields::same(name, b"setup") {
-        return made::setup(rest, state, text, used);
+        return parsed::setup(rest, state, text, used);
     }
     false
 }
 
 // The one number of a line, from 0 to `most`.
 fn up_to(most: u64, rest: &[u8]) -> Number {
-    let Numbers::Are(n, _) = made::exactly(1, rest) else {
+    let Numbers::Are(n, _) = parsed::exactly(1, rest) else {
         return Number::Bad;
     };
     if most < n {
@@ -100,18 +103,18 @@ fn answer(
     let name = &line[..end];
     let rest = &line[end..];
     if fields::same(name, b"output") {
-        if let Number::Value(n) = up_to(OUTPUT_BYTES as u64, rest) {
+        if let Number::Value(n) = up_to(MOST_OUTPUT as u64, rest) {
             next.output = n as usize;
             return next;
         }
     }
     if fields::same(name, b"journal") {
-        if let Number::Value(n) = up_to(WORDS as u64, rest) {
+        if let Number::Value(n) = up_to(MOST_JOURNAL as u64, rest) {
             next.journal = n as usize;
             return next;
         }
     }
-    let mut out = [0u8; OUTPUT_BYTES];
+    let mut out = [0u8; MOST_OUTPUT];
     let bytes = bytes_within(place.output, &out);
     let words = words_within(place.journal, journal);
     if !call(
@@ -133,7 +136,7 @@ fn answer_line(
     line: &[u8],
     place: Place,
     state: &mut State,
-    journal: &mut Words,
+    journal: &mut Journal,
     text: &mut Text,
     used: &mut usize,
 ) -> Place {
@@ -156,7 +159,7 @@ fn end_line(
     place: Place,
     line: &LineBytes,
     state: &mut State,
-    journal: &mut Words,
+    journal: &mut Journal,
     text: &mut Text,
     used: &mut usize,
 ) -> Place {
@@ -173,7 +176,7 @@ fn take_byte(
     place: Place,
     line: &mut LineBytes,
     state: &mut State,
-    journal: &mut Words,
+    journal: &mut Journal,
     text: &mut Text,
     used: &mut usize,
 ) -> Place {
@@ -196,7 +199,7 @@ fn take_piece(
     place: Place,
     line: &mut LineBytes,
     state: &mut State,
-    journal: &mut Words,
+    journal: &mut Journal,
     text: &mut Text,
     used: &mut usize,
 ) -> Place {
@@ -225,14 +228,14 @@ pub fn run() {
     let mut input = [0u8; 65536];
     let mut text = [0u8; TEXT_BYTES];
     let mut line = [0u8; LONGEST];
-    let mut journal = [0u64; WORDS];
-    let mut state = [0u64; 191];
+    let mut journal = [0u64; MOST_JOURNAL];
+    let mut state = [0u64; STATE_WORDS];
     let mut used: usize = 0;
     let mut place = Place {
         length: 0,
         lines: 0,
-        journal: 128,
-        output: 672,
+        journal: JOURNAL_WORDS,
+        output: OUTPUT_BYTES,
     };
     let mut reads: u64 = 18446744073709551615;
     while 0 < reads {

@@ -2,20 +2,26 @@
 ghost use Prim.Native.Nat.{_<_};
 use lines::output;
 use lines::output::Text;
-use lines::parts::lower;
+use model::CHANNEL_COUNT;
+use model::IDLE;
+use model::MOST_BLOCKS;
+use model::OFFERED;
+use model::SERVICE_COUNT;
 use model::State;
+use model::lower;
+ghost use Rattle.model.specs.Layout.{channelCount, mostBlocks, placeCount};
 
-// Service k = channel * 4 + service of the sixteen, if it is not idle.
+// The service at place k, if it is not idle.
 fn put_service(text: &mut Text, used: &mut usize, state: &State, service: u64, k: usize)
-    requires { ⌜ k < 16 ⌝ }
+    requires { ⌜ k < placeCount ⌝ }
 {
     let stage = state::stage_of(state, k);
-    if stage == 0 {
+    if stage == IDLE {
         return;
     }
     output::put(text, used, b"service");
     output::put_decimal(text, used, service);
-    if stage == 1 {
+    if stage == OFFERED {
         output::put(text, used, b" offered");
         output::put_decimal(text, used, state::handle_of(state, k));
     } else {
@@ -26,8 +32,18 @@ fn put_service(text: &mut Text, used: &mut usize, state: &State, service: u64, k
     output::put_byte(text, used, b'\n');
 }
 
+fn put_services(text: &mut Text, used: &mut usize, state: &State, channel: usize)
+    requires { ⌜ channel < channelCount ⌝ }
+{
+    let mut v: usize = 0;
+    while v < SERVICE_COUNT {
+        put_service(text, used, state, v as u64, channel * SERVICE_COUNT + v);
+        v += 1;
+    }
+}
+
 fn put_channel(text: &mut Text, used: &mut usize, state: &State, channel: usize)
-    requires { ⌜ channel < 4 ⌝ }
+    requires { ⌜ channel < channelCount ⌝ }
 {
     output::put(text, used, b"channel");
     output::put_decimal(text, used, channel as u64);
@@ -36,14 +52,19 @@ fn put_channel(text: &mut Text, used: &mut usize, state: &State, channel: usize)
     } else {
         output::put(text, used, b" closed\n");
     }
-    put_service(text, used, state, 0, channel * 4);
-    put_service(text, used, state, 1, channel * 4 + 1);
-    put_service(text, used, state, 2, channel * 4 + 2);
-    put_service(text, used, state, 3, channel * 4 + 3);
+    put_services(text, used, state, channel);
+}
+
+fn put_channels(text: &mut Text, used: &mut usize, state: &State) {
+    let mut c: usize = 0;
+    while c < CHANNEL_COUNT {
+        put_channel(text, used, state, c);
+        c += 1;
+    }
 }
 
 fn put_block(text: &mut Text, used: &mut usize, state: &State, i: usize)
-    requires { ⌜ i < 16 ⌝ }
+    requires { ⌜ i < mostBlocks ⌝ }
 {
     output::put(text, used, b"block");
     output::put_decimal(text, used, i as u64);
@@ -55,7 +76,7 @@ fn put_block(text: &mut Text, used: &mut usize, state: &State, i: usize)
 }
 
 fn put_blocks(text: &mut Text, used: &mut usize, state: &State) {
-    let count = lower(state::blocks_of(state), 16);
+    let count = lower(state::blocks_of(state) as u64, MOST_BLOCKS as u64) as usize;
     let mut i: usize = 0;
     while i < count {
         put_block(text, used, state, i);
@@ -81,10 +102,7 @@ fn put_removal(text: &mut Text, used: &mut usize, state: &State) {
 }
 
 pub(crate) fn put_state(text: &mut Text, used: &mut usize, state: &State) {
-    put_channel(text, used, state, 0);
-    put_channel(text, used, state, 1);
-    put_channel(text, used, state, 2);
-    put_channel(text, used, state, 3);
+    put_channels(text, used, state);
     put_blocks(text, used, state);
     put_removal(text, used, state);
     output::put(text, used, b"entries");

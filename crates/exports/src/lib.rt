@@ -4,7 +4,7 @@ use model::Drained;
 use model::Started;
 use model::State;
 use model::Worked;
-ghost use Rattle.model.specs.Step.{
+ghost use Rattle.model.specs.Contracts.{
   SetupPost,
   ReceivePost,
   OfferPost,
@@ -13,13 +13,14 @@ ghost use Rattle.model.specs.Step.{
   WorkPost,
   DrainPost,
 };
+ghost use Rattle.model.specs.Layout.{dataHeaderBytes};
 ghost use Rattle.model.specs.Calls.{shown};
-ghost use lib.ListN.{length};
+ghost use lib.ListN.{length, take, drop};
 ghost use mathlib.Core.Path.{_≡_};
 
 #[no_mangle]
 pub extern "C" fn arkelutz_setup(list: &[u64]) -> Started
-    ensures { λ r. ⌜ SetupPost (now (list .entry)) r ⌝ }
+    ensures { λ r. ⌜ SetupPost (record { blocks = now (list .entry) }) r ⌝ }
 {
     agent::setup(list)
 }
@@ -94,9 +95,10 @@ pub extern "C" fn arkelutz_drain(state: &mut State, journal: &[u64], run: &mut [
     agent::drain(state, journal, run)
 }
 
-// C has no parts of slices: the length of the part that show gives. A part that is not empty begins at byte 16 of the message.
+// C has no parts of slices: the length of the part that show gives, which begins after the DATA header.
 #[no_mangle]
 pub extern "C" fn arkelutz_show(state: &State, channel: usize, message: &[u8]) -> usize
+    ensures { λ r. ⌜ take r (drop dataHeaderBytes (now (message .entry))) ≡ shown (now (state .entry)) channel (now (message .entry)) ⌝ }
     ensures { λ r. ⌜ r ≡ length (shown (now (state .entry)) channel (now (message .entry))) ⌝ }
 {
     let part = agent::show(state, channel, message);

@@ -1,9 +1,9 @@
 -- Bytes pair by pair.
 -- Assumes nothing.
-use Prim.Native.Nat.{ℕ, suc, _+_, _*_, _/_, _%_, _≤_, _<_}
-use mathlib.Core.Path.{_≡_, refl, sym, ap, _∙_}
-use mathlib.Core.Bool.{Bool, true, false}
-use mathlib.Core.List.{List, [], _∷_, _++_}
+use Prim.Native.Nat.{ℕ, suc, _+_, _/_, _%_, _≤_, _<_}
+use mathlib.Core.Path.{_≡_, sym, ap, _∙_}
+use mathlib.Core.Bool.{true, false}
+use mathlib.Core.List.{List, _++_}
 use native.Mathlib.Omega.{arith}
 use native.Mathlib.Numerals.{add-one}
 use lib.ListN.{length, getD, set, drop}
@@ -14,9 +14,7 @@ use Rattle.model.specs.Choice.{pick, _and_, every, tabulate}
 use Rattle.model.proofs.Choice.{clash, pick-true, pick-false, both, join, and-false, and-false-right, tabulate-length}
 use Rattle.model.proofs.Loops.{every-fails}
 use Rattle.lines.specs.Fields.{digitOf, pairOf, arePair, pairIn, byteOf, isByte, areBytes, bytesIn, BytesRead}
-use Rattle.lines.specs.declared.fields.Number.{Number}
 use Rattle.lines.specs.declared.fields.Number.the-variants.{Value, Bad}
-use Rattle.lines.specs.declared.fields.Read.{Read}
 use Rattle.lines.specs.declared.fields.Read.the-variants.{Count, Bad as BadBytes}
 use Rattle.lines.proofs.Numbers.{value-of, bad-of}
 

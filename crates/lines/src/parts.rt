@@ -23,13 +23,3 @@ pub fn words_within(count: usize, run: &[u64]) -> usize
     }
     run.len()
 }
-
-// The lower of two numbers.
-pub fn lower(a: usize, b: usize) -> usize
-    ensures { λ r. ⌜ r ≡ min a b ⌝ }
-{
-    if a < b {
-        return a;
-    }
-    b
-}

@@ -1,148 +1,166 @@
--- A request's records as arrays, CONFIGURE's records one by one, and the fields of QUERY's and STATUS's records.
+-- A removal's numbers, the fields of STATUS's record, and what each answer does, from what its parts do.
 -- Assumes nothing.
-use mathlib.Core.Path.{_≡_, refl, sym, ap, _∙_}
-use mathlib.Core.Bool.{Bool, true, false}
-use mathlib.Core.List.{List, _++_}
-use Prim.Native.Nat.{ℕ, zero, suc, _+_, _*_, _-_, _%_, _^_, _<_, _≤_}
-use native.Mathlib.Nat.{add-zero}
-use native.Mathlib.Numerals.{add-one}
+use mathlib.Core.Path.{_≡_, refl, sym, ap, _∙_, subst}
+use mathlib.Core.Bool.{Bool, true, false, not}
+use mathlib.Core.List.{List, []}
+use Prim.Native.Nat.{ℕ, _+_, _*_, _<_, _≤_}
 use native.Mathlib.Omega.{arith}
-use lib.ListN.{length, getD, set, take, drop, replicate, length-drop, getD-replicate, take-append-drop, List·getD-eq-default}
-use lib.Seq.{sets, getD-drop, ext-getD, take-suc-set}
-use lib.Dec.{eqb, leb}
-use borrow.Author.Tests.{eq-eqb, ne-eqb, lt-ltb, le-ltb, eqb-true, leb-true}
-use Rattle.wire.specs.BigEndian.{byteAt, numberAt, bytesOf}
-use Rattle.model.specs.Choice.{pick, _and_, every, tabulate}
+use lib.ListN.{length, getD, replicate, getD-replicate}
+use lib.Seq.{sets}
+use borrow.Author.Tests.{lt-ltb, le-ltb, eqb-true, ltb-true}
+use Rattle.wire.specs.BigEndian.{bytesOf, written}
+use Rattle.model.specs.Choice.{pick, _and_, tabulate}
+use Rattle.model.specs.declared.Event.{Event}
+use Rattle.model.specs.declared.Found.{Found}
+use Rattle.model.specs.declared.Found.the-variants.{At, Nowhere}
 use Rattle.model.specs.declared.Removal.{Removal}
-use Rattle.model.specs.Layout.{blocksOf, blockAt, removalOf, withConfigured, withRemoval}
-use Rattle.model.specs.Blocks.{namedBlock, isNamed, endBefore}
-use Rattle.model.specs.State.{sound}
-use Rattle.model.specs.Memory.{addrIn, sizeIn, oneFailed, oneConfigured, oneUnchanged, configureOne, configuredBy, permanentBytes, permanentFirst, permanentRange, queryRecord, statusRecord, marked}
-use Rattle.model.proofs.Choice.{both, every-at, tabulate-at, tabulate-length}
-use Rattle.model.proofs.Words.{configured-frame}
-use Rattle.model.proofs.Rules.{Keeps, block-rules, sound-facts}
-use Rattle.model.proofs.Replies.{query-length}
-use Rattle.records.proofs.Parts.{sets-whole}
-use Rattle.memory.specs.declared.Step.{Step}
-use Rattle.memory.specs.Progress.{progress, Steps, Passes}
+use Rattle.model.specs.declared.Request.{Request}
+use Rattle.model.specs.declared.Request.the-variants.{Configure, Unconfigure, Query, Status, Cancel, Malformed}
+use Rattle.model.specs.Layout.{removalOf, isSet, memoryHeaderBytes, mostRecords, outputBytes, outstandingOf, pairBytes, replyHeaderBytes, statusBytes, withRemoval}
+use Rattle.model.specs.Blocks.{namedBlock, mostPages, pageSize}
+use Rattle.model.specs.State.{sound, collectedSound, removalRoom, roomAt, roomOf}
+use Rattle.model.specs.Journal.{codeNone, answeredEvent, cancelledEvent, codeBlocked, stored, begunEvent}
+use Rattle.model.specs.Messages.{effect}
+use Rattle.model.specs.Memory.{DR-MEM-OK, DR-MEM-RES-BLOCKED, addrIn, answering, argumentOf, blocked, cancelling, hasRecords, marked, memoryReply, reporting, requestOf, resultRecord, sizeIn, statusRecord, beginning, newRemoval}
+use Rattle.model.specs.Handler.{Handles, HandlesSilently}
+use Rattle.model.proofs.Choice.{on-pick, both, joined-same}
+use Rattle.model.proofs.Rules.{sound-facts, sound-block}
+use Rattle.model.proofs.Sounds.{named-less}
+use Rattle.model.proofs.Replies.{memory-length, status-length}
+use Rattle.requests.proofs.Laws.{counted}
+use Rattle.records.specs.Header.{memoryHeader}
+use Rattle.records.specs.Results.{ResultsWritten}
+use Rattle.records.proofs.Parts.{sets-whole, reply-length, reply-stored}
+use Rattle.configuration.proofs.Laws.{pairs-same}
 
--- past the end of a request its numbers are 0
-pub number-past : (b : List ℕ) (at k : ℕ) → length b ≤ at → numberAt b at k ≡ 0
-unfolding numberAt byteAt
-number-past b at zero h = refl
-number-past b at (suc k) h = rw (number-past b at k h, List·getD-eq-default b 0 {n = at + k} (omega arith))
+-- A sound removal's numbers.
+collected-fits : (collected room : ℕ) → collectedSound collected room ≡ true → collected ≤ room
+unfolding collectedSound
+collected-fits collected room =
+    on-pick (λ (t : Bool). t ≡ true → collected ≤ room) _ _ _
+    (λ z e. omega (arith, eqb-true collected 0 e))
+    (λ z e. omega (arith, ltb-true collected room e))
 
--- n values over an array of zeros are all the values, where the others are 0
-pub fill-short : (f : ℕ → ℕ) (n : ℕ) → ((i : ℕ) → n ≤ i → f i ≡ 0) → take n (tabulate f 16) ++ drop n (replicate 16 0) ≡ tabulate f 16
-fill-short f n z =
-    ap (λ (t : List ℕ). take n (tabulate f 16) ++ t)
-    (ext-getD 0 (drop n (replicate 16 0)) (drop n (tabulate f 16))
-    (length-drop {A = ℕ} n (replicate 16 0) ∙ sym (length-drop n (tabulate f 16) ∙ ap (λ (k : ℕ). k - n) (tabulate-length f 16)))
-    (λ i h.
-    let below : n + i < 16 = omega (arith, length-drop {A = ℕ} n (replicate 16 0)) in
-    getD-drop n (replicate 16 0) i 0
-    ∙ getD-replicate {A = ℕ} 16 (n + i) 0 0 below
-    ∙ sym (z (n + i) (omega arith))
-    ∙ sym (tabulate-at f 16 (n + i) 0 below)
-    ∙ sym (getD-drop n (tabulate f 16) i 0)))
-    ∙ take-append-drop n (tabulate f 16)
-
--- the bit of a block
-pub bit-is : (i : ℕ) → i < 16 → (1 * 2 ^ i % 2 ^ 64 ≡ 2 ^ i) × (1 * 2 ^ i % 2 ^ 64 ≤ 32768)
-bit-is i h =
-    let p = both _ _ (every-at (λ k. eqb (1 * 2 ^ k % 2 ^ 64) (2 ^ k) and leb (1 * 2 ^ k % 2 ^ 64) 32768) 16 i (unfold every _and_ in refl) h) in
-    (eqb-true _ _ (p .0), leb-true _ _ (p .1))
-
--- One record of CONFIGURE, by the cases of the definition.
-module _ (s : List ℕ) (failed : Bool) (addr size : ℕ) where
-  pub failed-step : failed ≡ true → Steps s failed addr size (record { result = 1; bit = 0 }) s
-  unfolding configureOne pick oneFailed
-  failed-step f = record { step = λ mask results. rw (f, add-zero); small = omega arith; blocks = refl }
-
-  module _ (f : failed ≡ false) (i : ℕ) (named : i ≡ namedBlock s addr size) where
-    pub unknown-step : blocksOf s ≤ i → Steps s failed addr size (record { result = 1; bit = 0 }) s
-    unfolding configureOne pick oneFailed isNamed
-    unknown-step h = record {
-      step = λ mask results. rw (f, ← named, le-ltb _ _ h, add-zero);
-      small = omega arith;
-      blocks = refl;
-    }
-
-    pub unchanged-step : i < blocksOf s → (blockAt s i .configured ≡ 0 → ⊥) → Steps s failed addr size (record { result = 4; bit = 0 }) s
-    unfolding configureOne pick oneUnchanged isNamed
-    unchanged-step h n = record {
-      step = λ mask results. rw (f, ← named, lt-ltb _ _ h, ne-eqb _ _ n, add-zero);
-      small = omega arith;
-      blocks = refl;
-    }
-
-    pub configured-step : {bit : ℕ} {s′ : List ℕ} → i < blocksOf s → i < 16 → blockAt s i .configured ≡ 0 → s′ ≡ withConfigured s i 1 → bit ≡ 2 ^ i → bit ≤ 32768 → Steps s failed addr size (record { result = 0; bit = bit }) s′
-    unfolding configureOne pick oneConfigured isNamed
-    configured-step h few z e p small = record {
-      step = λ mask results. rw (f, ← named, lt-ltb _ _ h, eq-eqb _ _ z, e, p);
-      small = small;
-      blocks = ap blocksOf e ∙ configured-frame s i 1 52 (λ p q. omega arith);
-    }
-
--- one record more, and all
-module _ (s b : List ℕ) where
-  pub progress-more : (t : List ℕ) (mask : ℕ) (failed : Bool) (result : List ℕ) (i addr size : ℕ) (r : Step) (t′ : List ℕ) → progress t mask failed (take i result) ≡ configuredBy s b i → i < length result
-      → Steps t failed addr size r t′ → addr ≡ addrIn b i → size ≡ sizeIn b i
-      → progress t′ (mask + r .bit) (eqb (r .result) 1) (take (i + 1) (set result i (r .result))) ≡ configuredBy s b (i + 1)
-  unfolding configuredBy
-  progress-more t mask failed result i addr size r t′ e h p q z =
-      rw (add-one, take-suc-set result i (r .result) h, ← e, ← q, ← z) (p .step mask (take i result))
-
-  pub passes : (t : List ℕ) (mask : ℕ) (failed : Bool) (result : List ℕ) (i n : ℕ) → i ≤ n → n ≤ i → blocksOf t ≡ blocksOf s → progress t mask failed (take i result) ≡ configuredBy s b i
-      → Passes s b n (record { mask = mask; result = result }) t
-  passes t mask failed result i n l m k e =
-      let same : i ≡ n = omega arith in
-      let e′ : progress t mask failed (take n result) ≡ configuredBy s b n = rw same at e in
-      record { state = λ x. e′ x .state; mask = λ x. e′ x .mask; results = λ x. e′ x .results; blocks = k }
-
--- the rules of a sound state's block
-pub block-fits : (s : List ℕ) (i : ℕ) → sound s ≡ true → i < blocksOf s → Keeps (blockAt s i) (endBefore s 53 i)
-block-fits s i e h = block-rules _ _ (sound-facts s e .base .blocks i h) .0
-
--- the permanent pages of a pair
-module _ (s : List ℕ) (addr size i : ℕ) (named : i ≡ namedBlock s addr size) where
-  pub range-unknown : blocksOf s ≤ i → (size ≡ permanentBytes s addr size) × (addr ≡ permanentFirst s addr size)
-  unfolding permanentBytes permanentFirst isNamed pick
-  range-unknown h = rw (← named, le-ltb _ _ h) (refl, refl)
-
-  pub range-known : {bytes first : ℕ} → i < blocksOf s → bytes ≡ blockAt s i .permanent * 8192 → first ≡ blockAt s i .base + blockAt s i .first * 8192 → (bytes ≡ permanentBytes s addr size) × (first ≡ permanentFirst s addr size)
-  unfolding permanentBytes permanentFirst isNamed pick
-  range-known h p q = rw (← named, lt-ltb _ _ h) (p, q)
-
--- three fields of a part from byte 16 on
-module _ (l : List ℕ) (bytes first : ℕ) {l₁ l₂ l₃ : List ℕ} where
-  pub range-none : bytes ≡ 0 → l₁ ≡ sets l 16 (bytesOf 8 0) → l₂ ≡ sets l₁ 24 (bytesOf 8 0) → l₃ ≡ sets l₂ 32 (bytesOf 8 0) → l₃ ≡ sets l 16 (permanentRange bytes first)
-  unfolding permanentRange pick bytesOf
-  range-none z e₁ e₂ e₃ = rw (eq-eqb _ _ z, e₃, e₂, e₁)
-
-  pub range-some : {last : ℕ} → (bytes ≡ 0 → ⊥) → last ≡ (first + (bytes - 1)) % 2 ^ 64 → l₁ ≡ sets l 16 (bytesOf 8 bytes) → l₂ ≡ sets l₁ 24 (bytesOf 8 first) → l₃ ≡ sets l₂ 32 (bytesOf 8 last) → l₃ ≡ sets l 16 (permanentRange bytes first)
-  unfolding permanentRange pick bytesOf
-  range-some {last} n w e₁ e₂ e₃ =
-      let same : first + bytes - 1 ≡ first + (bytes - 1) = omega arith in
-      rw (ne-eqb _ _ n, same, ← w, e₃, e₂, e₁)
-
-pub query-stored : (s part : List ℕ) (addr size : ℕ) {bytes first : ℕ} {p₁ p₂ p₃ : List ℕ} → length part ≡ 40 → (bytes ≡ permanentBytes s addr size) × (first ≡ permanentFirst s addr size)
-    → p₁ ≡ sets part 0 (bytesOf 8 addr) → p₂ ≡ sets p₁ 8 (bytesOf 8 size) → p₃ ≡ sets p₂ 16 (permanentRange bytes first) → p₃ ≡ queryRecord s addr size
-query-stored s part addr size {bytes} {first} {p₃ = p₃} long r e₁ e₂ e₃ = stored ∙ sets-whole (queryRecord s addr size) part (long ∙ sym (query-length s addr size))
+room-fits : (s : List ℕ) (addr size : ℕ) → sound s ≡ true → roomOf s addr size ≤ mostPages
+room-fits s addr size e = go (namedBlock s addr size) refl
   where
-    stored : p₃ ≡ sets part 0 (queryRecord s addr size)
-    stored = unfold queryRecord bytesOf in rw (e₃, e₂, e₁, r .0, r .1)
+    go : (x : Found) → namedBlock s addr size ≡ x → roomAt s x ≤ mostPages
+    go (At i) q =
+        unfold roomAt in
+        (on-pick (λ (n : ℕ). n ≤ mostPages) _ _ _
+        (λ t. sound-block s i e (named-less s addr size i q) .few)
+        (λ _. omega arith))
+    go Nowhere q = unfold roomAt in (omega arith)
 
--- two fields of a reply from byte 32 on
-module _ (l : List ℕ) (m : Removal) {l₁ l₂ : List ℕ} where
-  pub status-some : m .position < m .count → l₁ ≡ sets l 32 (bytesOf 8 (getD (m .size) (m .position) 0)) → l₂ ≡ sets l₁ 40 (bytesOf 8 (m .collected * 8192)) → l₂ ≡ sets l 32 (statusRecord m)
-  unfolding statusRecord pick bytesOf
-  status-some h e₁ e₂ = rw (lt-ltb _ _ h, e₂, e₁)
+removal-room-fits : (s : List ℕ) (m : Removal) → sound s ≡ true → removalRoom s m ≤ mostPages
+unfolding removalRoom
+removal-room-fits s m e = on-pick (λ (n : ℕ). n ≤ mostPages) _ _ _ (λ _. room-fits s _ _ e) (λ _. omega arith)
 
-  pub status-settled : m .count ≤ m .position → l₁ ≡ sets l 32 (bytesOf 8 0) → l₂ ≡ sets l₁ 40 (bytesOf 8 0) → l₂ ≡ sets l 32 (statusRecord m)
-  unfolding statusRecord pick bytesOf
-  status-settled h e₁ e₂ = rw (le-ltb _ _ h, e₂, e₁)
+pub removal-fits : (s : List ℕ) (m : Removal) → m ≡ removalOf s → sound s ≡ true → isSet (outstandingOf s) ≡ true → (m .count ≤ mostRecords) × (m .collected ≤ mostPages)
+removal-fits s m q e o =
+    let f = sound-facts s e .removal o .facts in
+    rw q
+    (f .few, omega (arith, collected-fits _ _ (f .room), removal-room-fits s (removalOf s) e))
+
+-- the two fields of STATUS's record fill its part
+module _ (part : List ℕ) (m : Removal) (long : length part ≡ statusBytes) {p₁ p₂ : List ℕ} where
+  pub status-some : m .position < m .count → p₁ ≡ sets part 0 (bytesOf 8 (getD (m .size) (m .position) 0)) → p₂ ≡ sets p₁ 8 (bytesOf 8 (m .collected * pageSize)) → p₂ ≡ statusRecord m
+  status-some h e₁ e₂ = stored ∙ sets-whole (statusRecord m) part (long ∙ sym (status-length m))
+    where
+      stored : p₂ ≡ sets part 0 (statusRecord m)
+      stored = unfold statusRecord pick bytesOf in rw (lt-ltb _ _ h, e₂, e₁)
+
+  pub status-settled : m .count ≤ m .position → p₁ ≡ sets part 0 (bytesOf 8 0) → p₂ ≡ sets p₁ 8 (bytesOf 8 0) → p₂ ≡ statusRecord m
+  status-settled h e₁ e₂ = stored ∙ sets-whole (statusRecord m) part (long ∙ sym (status-length m))
+    where
+      stored : p₂ ≡ sets part 0 (statusRecord m)
+      stored = unfold statusRecord pick bytesOf in rw (le-ltb _ _ h, e₂, e₁)
 
 -- a removal marked
 pub mark-is : (s : List ℕ) (m : Removal) {s′ : List ℕ} → m ≡ removalOf s → s′ ≡ withRemoval s (marked m) → s′ ≡ withRemoval s (marked (removalOf s))
 mark-is s m e f = f ∙ ap (λ (x : Removal). withRemoval s (marked x)) e
+
+-- STATUS and CANCEL.
+module _ (s out : List ℕ) (c handle request : ℕ) {e : Event} {out′ : List ℕ} where
+  pub report-none : isSet (outstandingOf s) ≡ false → e ≡ answeredEvent c codeNone request → out′ ≡ written (memoryReply handle DR-MEM-OK 0 request []) out → Handles (reporting s c handle request) out replyHeaderBytes e s out′
+  unfolding reporting answering pick
+  report-none f n w =
+      rw f (record { length′ = sym (memory-length handle DR-MEM-OK 0 request []); notes = n; state = refl; output = w })
+
+  pub report-some : (x : Removal) {out₁ : List ℕ} → isSet (outstandingOf s) ≡ true → x ≡ removalOf s → e ≡ answeredEvent c codeNone request → outputBytes ≤ length out → out₁ ≡ sets out 0 (memoryHeader handle DR-MEM-OK 1 request statusBytes) → out′ ≡ sets out₁ replyHeaderBytes (statusRecord x) → Handles (reporting s c handle request) out (replyHeaderBytes + statusBytes) e s out′
+  unfolding reporting answering pick
+  report-some x t q n room h w =
+      rw (t, ← q)
+      (record {
+        length′ = reply-length handle DR-MEM-OK 1 request (statusRecord x) out (status-length x);
+        notes = n;
+        state = refl;
+        output = reply-stored handle DR-MEM-OK 1 request (statusRecord x) out statusBytes (status-length x) (omega arith) h w;
+      })
+
+  module _ (w : out′ ≡ written (memoryReply handle DR-MEM-OK 0 request []) out) where
+    pub cancel-idle : isSet (outstandingOf s) ≡ false → e ≡ answeredEvent c codeNone request → Handles (cancelling s c handle request) out replyHeaderBytes e s out′
+    unfolding cancelling answering pick _and_
+    cancel-idle f n =
+        rw f (record { length′ = sym (memory-length handle DR-MEM-OK 0 request []); notes = n; state = refl; output = w })
+
+    pub cancel-again : (x : Removal) → x ≡ removalOf s → isSet (outstandingOf s) ≡ true → x .cancelled ≡ true → e ≡ answeredEvent c codeNone request → Handles (cancelling s c handle request) out replyHeaderBytes e s out′
+    unfolding cancelling answering pick _and_
+    cancel-again x q t k n =
+        rw (t, ← q, k) (record { length′ = sym (memory-length handle DR-MEM-OK 0 request []); notes = n; state = refl; output = w })
+
+    pub cancel-marks : (x : Removal) {s′ : List ℕ} → x ≡ removalOf s → isSet (outstandingOf s) ≡ true → x .cancelled ≡ false → s′ ≡ withRemoval s (marked (removalOf s)) → e ≡ cancelledEvent c request → Handles (cancelling s c handle request) out replyHeaderBytes e s′ out′
+    unfolding cancelling pick _and_
+    cancel-marks x {s′} q t k f n =
+        let f′ : s′ ≡ withRemoval s (marked x) = rw (← q) at f in
+        rw (t, ← q)
+        (subst (λ (b : Bool). Handles (pick (not b) (effect (cancelledEvent c request) (withRemoval s (marked x)) (memoryReply handle DR-MEM-OK 0 request [])) (answering s c codeNone request (memoryReply handle DR-MEM-OK 0 request []))) out replyHeaderBytes e s′ out′)
+        (sym k)
+        (record { length′ = sym (memory-length handle DR-MEM-OK 0 request []); notes = n; state = f′; output = w }))
+
+-- a removal begun, from the request's pairs as arrays
+pub begin-silent : (s b : List ℕ) (c handle request n : ℕ) (address size : List ℕ) {e : Event} {s′ : List ℕ} → address ≡ tabulate (λ i. addrIn b i) mostRecords → size ≡ tabulate (λ i. sizeIn b i) mostRecords → e ≡ begunEvent c n request
+    → s′ ≡ withRemoval s (record { cancelled = false; channel = c; handle = handle; request = request; count = n; position = 0; collected = 0; address = address; size = size; result = replicate mostRecords 0 })
+    → HandlesSilently (beginning s c handle request b n) 0 e s′
+unfolding beginning newRemoval
+begin-silent s b c handle request n address size p q notes st =
+    record { noReply = refl; length′ = refl; notes = notes; state = rw (p, q) at st }
+
+-- every record BLOCKED
+pub block-handles : (s b out : List ℕ) (c handle request n : ℕ) (address size : List ℕ) {l : ℕ} {e : Event} {out′ : List ℕ} → n ≤ mostRecords → address ≡ tabulate (λ i. addrIn b i) mostRecords → size ≡ tabulate (λ i. sizeIn b i) mostRecords → ResultsWritten s handle request address size (replicate mostRecords DR-MEM-RES-BLOCKED) n out l out′ → e ≡ answeredEvent c codeBlocked request → Handles (blocked s c handle request b n) out l e s out′
+unfolding blocked answering
+block-handles s b out c handle request n address size few p q w notes =
+    let same =
+    pairs-same s b address size (λ i. getD (replicate mostRecords DR-MEM-RES-BLOCKED) i 0) n few p q
+    ∙ joined-same (λ i. resultRecord s (addrIn b i) (sizeIn b i) DR-MEM-RES-BLOCKED)
+    (λ i. resultRecord s (addrIn b i) (sizeIn b i) (getD (replicate mostRecords DR-MEM-RES-BLOCKED) i 0)) n
+    (λ i l. let below : i < mostRecords = omega arith in rw (getD-replicate {A = ℕ} mostRecords i DR-MEM-RES-BLOCKED 0 below)) in
+    rw (← same) (record { length′ = w .long; notes = notes; state = refl; output = w .output })
+
+-- A request with records has the most, and all their bytes.
+abbrev pub Whole : List ℕ → ℕ → Type 0
+Whole b n = (n ≤ mostRecords) × (length b ≡ memoryHeaderBytes + n * pairBytes)
+
+abbrev pub Formed : List ℕ → Request → Type 0
+Formed b (Configure n) = Whole b n
+Formed b (Unconfigure n) = Whole b n
+Formed b (Query n) = Whole b n
+Formed b Status = Unit {0}
+Formed b Cancel = Unit {0}
+Formed b Malformed = Unit {0}
+
+formed-all : (b : List ℕ) → Formed b (requestOf b)
+unfolding requestOf
+formed-all b =
+    on-pick (Formed b) _ _ _ (λ e. tt)
+    (λ _. on-pick (Formed b) _ _ _ (λ e. some (both _ _ e .1))
+    (λ _. on-pick (Formed b) _ _ _ (λ e. some (both _ _ e .1))
+    (λ _. on-pick (Formed b) _ _ _ (λ e. some (both _ _ e .1))
+    (λ _. on-pick (Formed b) _ _ _ (λ e. tt)
+    (λ _. on-pick (Formed b) _ _ _ (λ e. tt) (λ e. tt))))))
+  where
+    some : hasRecords b ≡ true → Whole b (argumentOf b)
+    some e = let k = counted b e in (k .few, k .whole)
+
+pub formed : (b : List ℕ) {x : Request} (y : Request) → x ≡ requestOf b → x ≡ y → Formed b y
+formed b y e d = subst (Formed b) (sym e ∙ d) (formed-all b)

@@ -1,4 +1,3 @@
--- What is proved of the requests' parts and answers beside the functions.
+-- Laws that several proofs cite.
 -- Assumes nothing.
 pub mod Laws
-pub mod Answers

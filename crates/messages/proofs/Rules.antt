@@ -13,10 +13,10 @@ use Rattle.wire.proofs.Laws.{byte-at}
 use Rattle.model.specs.Choice.{pick, _and_}
 use Rattle.model.specs.declared.Message.{Message}
 use Rattle.model.specs.declared.Message.the-variants.{InitReq, Data, Bad}
-use Rattle.model.specs.Messages.{DS-INIT-REQ, DS-REG-REQ, DS-REG-ACK, DS-REG-NACK, DS-UNREG, DS-UNREG-ACK, DS-UNREG-NACK, DS-DATA, DS-NACK}
-use Rattle.model.specs.Messages.{typeOf, payloadLength, wholeMessage, idFits, payloadFits, wellFormed, decodedByType, decoded}
+use Rattle.model.specs.Messages.{DS-INIT-REQ, DS-REG-REQ, DS-REG-ACK, DS-REG-NACK, DS-UNREG, DS-UNREG-ACK, DS-UNREG-NACK, DS-DATA, DS-NACK, decoded, decodedByType, idFits, mostPayload, payloadFits, payloadLength, typeOf, wellFormed, wholeMessage}
 use Rattle.model.proofs.Choice.{both, clash, on-pick}
 use Rattle.messages.specs.Id.{noZero}
+use Rattle.model.specs.Layout.{dataHeaderBytes, dsHeaderBytes}
 
 pub and-true : (a b : Bool) → b ≡ true → (a and b) ≡ a
 unfolding _and_
@@ -25,8 +25,8 @@ and-true false b e = refl
 
 -- a message has 8 + payload_len bytes, and payload_len is at most 4,096
 pub record Whole (m : List ℕ) : Type 0 where
-  pub size : length m ≡ 8 + payloadLength m
-  pub bound : payloadLength m ≤ 4096
+  pub size : length m ≡ dsHeaderBytes + payloadLength m
+  pub bound : payloadLength m ≤ mostPayload
 
 -- an id has 1 to 1,024 bytes, and the last is zero
 pub record Id (m : List ℕ) : Type 0 where
@@ -47,7 +47,7 @@ module _ (m : List ℕ) where
   whole-rules t = let p = both _ _ t in record { size = eqb-true _ _ (p .0); bound = leb-true _ _ (p .1) }
 
   -- the last test of a whole message is of its length
-  pub whole-last : payloadLength m ≤ 4096 → wholeMessage m ≡ eqb (length m) (8 + payloadLength m)
+  pub whole-last : payloadLength m ≤ mostPayload → wholeMessage m ≡ eqb (length m) (dsHeaderBytes + payloadLength m)
   unfolding wholeMessage
   whole-last h = and-true _ _ (le-leb _ _ h)
 
@@ -125,7 +125,7 @@ module _ (m : List ℕ) where
         long n h t = omega (arith, eqb-true (payloadLength m) n t)
 
 -- a message that is DATA has a handle, and byte 16 is the first after it
-pub data-there : (m : List ℕ) (handle : ℕ) → decoded m ≡ Data handle → 16 ≤ length m
+pub data-there : (m : List ℕ) (handle : ℕ) → decoded m ≡ Data handle → dataHeaderBytes ≤ length m
 unfolding decoded decodedByType
 data-there m handle =
     on-pick P (wellFormed m) _ Bad
@@ -139,4 +139,4 @@ data-there m handle =
     (λ _ e. absurd (let z : _≡_ {A = ℕ} 0 1 = cc in omega arith))
   where
     P : Message → Type 0
-    P x = x ≡ Data handle → 16 ≤ length m
+    P x = x ≡ Data handle → dataHeaderBytes ≤ length m

@@ -1,5 +1,17 @@
 // Which DS message a slice of bytes is.
-
+use model::DATA_HEADER_BYTES;
+use model::DS_DATA;
+use model::DS_HEADER_BYTES;
+use model::DS_INIT_REQ;
+use model::DS_NACK;
+use model::DS_REG_ACK;
+use model::DS_REG_NACK;
+use model::DS_REG_REQ;
+use model::DS_UNREG;
+use model::DS_UNREG_ACK;
+use model::DS_UNREG_NACK;
+use model::MOST_PAYLOAD;
+use model::Message;
 ghost use mathlib.Core.Path.{_≡_};
 ghost use mathlib.Core.Bool.{true};
 ghost use Prim.Native.Nat.{_+_, _≤_};
@@ -14,40 +26,20 @@ ghost use Rattle.model.specs.Messages.{
   decodedByType,
   decoded,
 };
+ghost use Rattle.model.specs.Layout.{dataHeaderBytes};
 ghost use Rattle.messages.specs.Id.{noZero};
-use model::Message;
-
-// Types of messages.
-const DS_INIT_REQ: u64 = 0x0;
-
-const DS_REG_REQ: u64 = 0x3;
-
-const DS_REG_ACK: u64 = 0x4;
-
-const DS_REG_NACK: u64 = 0x5;
-
-const DS_UNREG: u64 = 0x6;
-
-const DS_UNREG_ACK: u64 = 0x7;
-
-const DS_UNREG_NACK: u64 = 0x8;
-
-const DS_DATA: u64 = 0x9;
-
-const DS_NACK: u64 = 0xa;
-
 // "it has 8 + payload_len bytes, payload_len is at most 4,096"
 fn whole_message(m: &[u8]) -> bool
     ensures { λ r. ⌜ r ≡ wholeMessage (now (m .entry)) ⌝ }
 {
-    if m.len() < 8 {
+    if m.len() < DS_HEADER_BYTES {
         return false;
     }
     let payload_len = wire::get32(m, 4) as usize;
-    if payload_len > 4096 {
+    if payload_len > MOST_PAYLOAD {
         return false;
     }
-    m.len() == 8 + payload_len
+    m.len() == DS_HEADER_BYTES + payload_len
 }
 
 // Whether none of `count` bytes from byte 20 on is zero: the id's, but for its last.
@@ -87,7 +79,7 @@ fn payload_fits(m: &[u8]) -> bool
     requires { ⌜ wholeMessage (now m) ≡ true ⌝ }
     ensures { λ r. ⌜ r ≡ payloadFits (now (m .entry)) ⌝ }
 {
-    let message_type = wire::get32(m, 0);
+    let message_type = wire::get32(m, 0) as u32;
     let payload_len = wire::get32(m, 4) as usize;
     match message_type {
         DS_INIT_REQ => payload_len == 4,
@@ -103,7 +95,7 @@ fn payload_fits(m: &[u8]) -> bool
 
 // svc_handle, in all of its 64 bits.
 fn handle_of(m: &[u8]) -> u64
-    requires { ⌜ 16 ≤ length (now m) ⌝ }
+    requires { ⌜ dataHeaderBytes ≤ length (now m) ⌝ }
     ensures { λ r. ⌜ r ≡ numberAt (now (m .entry)) 8 8 ⌝ }
 {
     wire::get64(m, 8)
@@ -114,7 +106,7 @@ fn by_type(m: &[u8]) -> Message
     requires { ⌜ wellFormed (now m) ≡ true ⌝ }
     ensures { λ r. ⌜ r ≡ decodedByType (now (m .entry)) ⌝ }
 {
-    let message_type = wire::get32(m, 0);
+    let message_type = wire::get32(m, 0) as u32;
     if message_type == DS_INIT_REQ {
         return Message::InitReq {
             major: wire::get16(m, 8) as u16,
@@ -132,7 +124,8 @@ fn by_type(m: &[u8]) -> Message
         DS_UNREG_ACK => Message::UnregAck,
         DS_UNREG_NACK => Message::UnregNack,
         DS_DATA => Message::Data { handle },
-        _ => Message::Nack,
+        DS_NACK => Message::Nack,
+        _ => Message::Bad,
     }
 }
 
@@ -151,8 +144,8 @@ pub fn decode(m: &[u8]) -> Message
 
 // What a DATA message carries: "the part of its own message from byte 16 on"
 pub fn payload(m: &[u8]) -> &[u8]
-    requires { ⌜ 16 ≤ length (now m) ⌝ }
-    ensures { λ r. ⌜ now r ≡ drop 16 (now (m .entry)) ⌝ }
+    requires { ⌜ dataHeaderBytes ≤ length (now m) ⌝ }
+    ensures { λ r. ⌜ now r ≡ drop dataHeaderBytes (now (m .entry)) ⌝ }
 {
-    &m[16..]
+    &m[DATA_HEADER_BYTES..]
 }

@@ -1,138 +1,111 @@
 -- What holds of a call that is accepted.
 -- Assumes nothing.
-use Prim.Native.Nat.{ℕ, _≤_, _<_}
+use Prim.Native.Nat.{ℕ, _/_, _≤_, _<_, min}
 use native.Mathlib.Omega.{arith}
-use mathlib.Core.Path.{_≡_, refl, sym, ap, _∙_}
-use mathlib.Core.Bool.{Bool, true, false, false≢true}
-use mathlib.Core.List.{List}
+use mathlib.Core.Path.{_≡_, refl}
+use mathlib.Core.Bool.{Bool, true, false, not}
+use mathlib.Core.List.{List, _∷_}
 use lib.ListN.{length}
 use lib.Dec.{eqb}
-use borrow.Author.Tests.{ltb-true, leb-true, eqb-true}
+use borrow.Author.Tests.{ltb-true, ltb-false, leb-true, leb-false, eqb-true, eqb-false, not-false}
 use Rattle.model.specs.Choice.{pick}
-use Rattle.model.specs.Layout.{lastOf, heldOf, outstandingOf, isSet}
 use Rattle.model.specs.State.{sound}
-use Rattle.model.specs.Refusals.{refusalOf, drainRefusal}
-use Rattle.model.specs.Messages.{Effect, closing, offering, withdrawing}
-use Rattle.model.specs.Work.{working}
-use Rattle.model.specs.Calls.{Call, receive, offer, withdraw, close, work, drain, Outcome, outcome, decided, receiving, canOffer, canWork}
-use Rattle.model.specs.Kept.{bufferOf, IsNoDrain}
-use Rattle.model.proofs.Choice.{both}
+use Rattle.model.specs.Refusals.{Refusal, refusalIn, actionRefusal, drainRefusal}
+use Rattle.model.specs.Messages.{Effect}
+use Rattle.model.specs.Calls.{Action, Outcome, accepted, act, allowed, close, drain, drained, effectOf, inRange, offer, outcome, pagesOf, receive, refusalOf, refused, withdraw, work}
+use Rattle.model.proofs.Choice.{on-pick, both}
 use Rattle.model.proofs.Rules.{sound-facts}
 use Rattle.model.proofs.Effects.{Given, Good, closing-good, offering-good, withdrawing-good}
 use Rattle.model.proofs.WorkEffects.{working-good}
 use Rattle.model.proofs.ReceiveEffects.{receiving-good}
+use Rattle.model.specs.Layout.{channelCount, entryWords, heldOf, highestNumber, journalWords, lastOf, mostBudget, mostHeld, outputBytes, serviceCount, stateWords}
 
--- a chosen number is 0: the test passed, and the number under it is 0
-pick-zero : (b : Bool) (x n : ℕ) → eqb n 0 ≡ false → pick b x n ≡ 0 → (b ≡ true) × (x ≡ 0)
-unfolding pick
-pick-zero true x n z e = (refl, e)
-pick-zero false x n z e = absurd (false≢true (sym z ∙ ap (λ (k : ℕ). eqb k 0) e))
+-- A row of a table that refuses nothing: the first does not apply, and neither does a later one.
+pub row-passed : (r : Refusal) (rs : List Refusal) → eqb (r .number) 0 ≡ false → refusalIn (r ∷ rs) ≡ 0 → (r .when ≡ false) × (refusalIn rs ≡ 0)
+unfolding refusalIn
+row-passed r rs z e = go (r .when) refl e
+  where
+    go : (b : Bool) → r .when ≡ b → pick b (r .number) (refusalIn rs) ≡ 0 → (r .when ≡ false) × (refusalIn rs ≡ 0)
+    go true w q = absurd (eqb-false (r .number) 0 z (unfold pick in q))
+    go false w q = (w, unfold pick in q)
 
 -- no refusal applies
-pub record Passed (s : List ℕ) (words bytes : ℕ) (arguments allowed : Bool) : Type 0 where
+pub record Passed (s : List ℕ) (words bytes : ℕ) (within may : Bool) : Type 0 where
   pub isSound : sound s ≡ true
-  pub words128 : words ≡ 128
-  pub bytes672 : 672 ≤ bytes
-  pub inRange : arguments ≡ true
-  pub room : heldOf s < 64
-  pub number : lastOf s < 4294967295
-  pub isAllowed : allowed ≡ true
+  pub journal : words ≡ journalWords
+  pub output : outputBytes ≤ bytes
+  pub isWithin : within ≡ true
+  pub room : heldOf s < mostHeld
+  pub number : lastOf s < highestNumber
+  pub isAllowed : may ≡ true
 
-pub passed : (s : List ℕ) (words bytes : ℕ) (arguments allowed : Bool) → refusalOf s words bytes arguments allowed ≡ 0 → Passed s words bytes arguments allowed
-unfolding refusalOf
-passed s words bytes arguments allowed e =
-    let p₈ = pick-zero _ _ 8 refl e in
-    let p₁ = pick-zero _ _ 1 refl (p₈ .1) in
-    let p₂ = pick-zero _ _ 2 refl (p₁ .1) in
-    let p₃ = pick-zero _ _ 3 refl (p₂ .1) in
-    let p₄ = pick-zero _ _ 4 refl (p₃ .1) in
-    let p₅ = pick-zero _ _ 5 refl (p₄ .1) in
-    let p₆ = pick-zero _ _ 6 refl (p₅ .1) in
+pub passed : (s : List ℕ) (words bytes : ℕ) (within may : Bool) → actionRefusal s words bytes within may ≡ 0 → Passed s words bytes within may
+unfolding actionRefusal
+passed s words bytes within may e =
+    let p₈ = row-passed _ _ refl e in
+    let p₁ = row-passed _ _ refl (p₈ .1) in
+    let p₂ = row-passed _ _ refl (p₁ .1) in
+    let p₃ = row-passed _ _ refl (p₂ .1) in
+    let p₄ = row-passed _ _ refl (p₃ .1) in
+    let p₅ = row-passed _ _ refl (p₄ .1) in
+    let p₆ = row-passed _ _ refl (p₅ .1) in
     record {
-      isSound = p₈ .0;
-      words128 = eqb-true words 128 (p₁ .0);
-      bytes672 = leb-true 672 bytes (p₂ .0);
-      inRange = p₃ .0;
-      room = ltb-true _ 64 (p₄ .0);
-      number = ltb-true _ 4294967295 (p₅ .0);
-      isAllowed = p₆ .0;
+      isSound = not-false _ (p₈ .0);
+      journal = eqb-true words journalWords (not-false _ (p₁ .0));
+      output = ltb-false bytes outputBytes (p₂ .0);
+      isWithin = not-false _ (p₃ .0);
+      room = leb-false mostHeld _ (p₄ .0);
+      number = leb-false highestNumber _ (p₅ .0);
+      isAllowed = not-false _ (p₆ .0);
     }
 
-pub drain-passed : (s : List ℕ) (words : ℕ) → drainRefusal s words ≡ 0 → (sound s ≡ true) × (words ≡ 128)
+pub drain-passed : (s : List ℕ) (words : ℕ) → drainRefusal s words ≡ 0 → (sound s ≡ true) × (words ≡ journalWords)
 unfolding drainRefusal
 drain-passed s words e =
-    let p₈ = pick-zero _ _ 8 refl e in
-    let p₁ = pick-zero _ _ 1 refl (p₈ .1) in
-    (p₈ .0, eqb-true words 128 (p₁ .0))
+    let p₈ = row-passed _ _ refl e in
+    let p₁ = row-passed _ _ refl (p₈ .1) in
+    (not-false _ (p₈ .0), eqb-true words journalWords (not-false _ (p₁ .0)))
 
--- an accepted call that is no drain
+-- an accepted action's effect is good
+pub action-good : (s : List ℕ) (g : Given s) (a : Action) → inRange a ≡ true → allowed s a ≡ true → Good s (effectOf s a)
+unfolding inRange allowed effectOf
+action-good s g (receive c m) r p = receiving-good s g c m (ltb-true c channelCount r)
+action-good s g (offer c v) r p =
+    let b = both _ _ r in
+    offering-good s g c v (ltb-true c channelCount (b .0)) (ltb-true v serviceCount (b .1)) (eqb-true _ 1 (both _ _ p .0))
+action-good s g (withdraw c v) r p =
+    let b = both _ _ r in
+    withdrawing-good s g c v (ltb-true c channelCount (b .0)) (ltb-true v serviceCount (b .1))
+action-good s g (close c) r p = closing-good s g c 0 (ltb-true c channelCount r)
+action-good s g (work budget) r p = working-good s g budget p (leb-true budget mostBudget (both _ _ r .1))
+
+-- an accepted action
 pub record Taken (s j out : List ℕ) (e : Effect) : Type 0 where
-  pub words : length j ≡ 128
-  pub bytes : 672 ≤ length out
-  pub room : heldOf s < 64
+  pub words : length j ≡ journalWords
+  pub bytes : outputBytes ≤ length out
+  pub room : heldOf s < mostHeld
   pub given : Given s
   pub good : Good s e
 
--- a call that is no drain: it refuses, or it has a good effect
-pub record Recorded (s j out : List ℕ) (r : Outcome) : Type 0 where
-  pub refusal : ℕ
-  pub made : Effect
-  pub same : r ≡ decided s j out refusal made
-  pub taken : refusal ≡ 0 → Taken s j out made
+pub taken : (s j out : List ℕ) (a : Action) → length s ≡ stateWords → refusalOf s j out a ≡ 0 → Taken s j out (effectOf s a)
+unfolding refusalOf
+taken s j out a size z =
+    let p = passed s (length j) (length out) (inRange a) (allowed s a) z in
+    let g : Given s = record { size = size; facts = sound-facts s (p .isSound); number = p .number } in
+    record {
+      words = p .journal;
+      bytes = p .output;
+      room = p .room;
+      given = g;
+      good = action-good s g a (p .isWithin) (p .isAllowed);
+    }
 
-module _ (s j : List ℕ) (size : length s ≡ 191) where
-  take : (out : List ℕ) (arguments allowed : Bool) (e : Effect) → (Given s → arguments ≡ true → allowed ≡ true → Good s e) → refusalOf s (length j) (length out) arguments allowed ≡ 0 → Taken s j out e
-  take out arguments allowed e f z =
-      let p = passed s (length j) (length out) arguments allowed z in
-      let g : Given s = record { size = size; facts = sound-facts s (p .isSound); number = p .number } in
-      record { words = p .words128; bytes = p .bytes672; room = p .room; given = g; good = f g (p .inRange) (p .isAllowed) }
+-- what holds of both outcomes of an action, and of a drain
+pub on-act : (P : Outcome → Type 0) (s j out : List ℕ) (a : Action) → (refusalOf s j out a ≡ 0 → P (accepted s j out (pagesOf s a) (effectOf s a))) → ((refusalOf s j out a ≡ 0 → ⊥) → P (refused s j out (refusalOf s j out a))) → P (outcome s j (act a out))
+unfolding outcome
+on-act P s j out a f g = on-pick P _ _ _ (λ z. f (eqb-true _ 0 z)) (λ z. g (eqb-false _ 0 z))
 
-  pub recorded : (call : Call) → IsNoDrain call → Recorded s j (bufferOf call) (outcome s j call)
-  unfolding outcome bufferOf IsNoDrain
-  recorded (receive c m out) n = record {
-    refusal = _;
-    made = receiving s c m;
-    same = refl;
-    taken = take out _ _ _ (λ g a b. receiving-good s g c m (ltb-true c 4 a));
-  }
-  recorded (offer c v out) n = record {
-    refusal = _;
-    made = offering s c v;
-    same = refl;
-    taken =
-        take out _ _ _
-        (λ g a b.
-        let r = both _ _ a in
-        offering-good s g c v (ltb-true c 4 (r .0)) (ltb-true v 4 (r .1)) (can-offer c v b));
-  }
-    where
-      can-offer : (c v : ℕ) → canOffer s c v ≡ true → Rattle.model.specs.Layout.readyAt s c ≡ 1
-      can-offer c v b = unfold canOffer in (eqb-true _ 1 (both _ _ b .0))
-  recorded (withdraw c v out) n = record {
-    refusal = _;
-    made = withdrawing s c v;
-    same = refl;
-    taken =
-        take out _ _ _
-        (λ g a b. let r = both _ _ a in withdrawing-good s g c v (ltb-true c 4 (r .0)) (ltb-true v 4 (r .1)));
-  }
-  recorded (close c out) n = record {
-    refusal = _;
-    made = closing s c 0;
-    same = refl;
-    taken = take out _ _ _ (λ g a b. closing-good s g c 0 (ltb-true c 4 a));
-  }
-  recorded (work budget out) n = record {
-    refusal = _;
-    made = working s budget;
-    same = refl;
-    taken =
-        take out _ _ _
-        (λ g a b.
-        let r = both _ _ a in
-        working-good s g budget (can-work b) (omega (arith, leb-true budget 65535 (r .1))));
-  }
-    where
-      can-work : canWork s ≡ true → isSet (outstandingOf s) ≡ true
-      can-work b = unfold canWork in b
-  recorded (drain run) n = absurd n
+pub on-drain : (P : Outcome → Type 0) (s j run : List ℕ) → (drainRefusal s (length j) ≡ 0 → (n : ℕ) → n ≤ heldOf s → n ≡ min (heldOf s) (length run / entryWords) → P (drained s j run n)) → ((drainRefusal s (length j) ≡ 0 → ⊥) → P (refused s j run (drainRefusal s (length j)))) → P (outcome s j (drain run))
+unfolding outcome
+on-drain P s j run f g =
+    on-pick P _ _ _ (λ z. f (eqb-true _ 0 z) _ (omega arith) refl) (λ z. g (eqb-false _ 0 z))

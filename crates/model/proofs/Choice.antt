@@ -10,8 +10,10 @@ use native.Mathlib.Omega.{arith}
 use lib.ListN.{length, getD, set, length-append, length-set, List·getD-append}
 use lib.Seq.{getD-at, ext-getD, getD-set-same, getD-set-other}
 use lib.Dec.{eqb, ltb}
-use borrow.Author.Tests.{eqb-true, eqb-false}
-use Rattle.model.specs.Choice.{pick, _and_, _or_, every, firstOf, tabulate, joined}
+use borrow.Author.Tests.{eqb-true, eqb-false, ltb-true, ltb-false}
+use Rattle.model.specs.declared.Found.{Found}
+use Rattle.model.specs.declared.Found.the-variants.{At, Nowhere}
+use Rattle.model.specs.Choice.{pick, _and_, _or_, every, orElse, firstBelow, isFound, tabulate, joined}
 
 -- Tests.
 pub clash : (b : Bool) → b ≡ false → b ≡ true → ⊥
@@ -55,6 +57,16 @@ pub or-false : (a b : Bool) → (a or b) ≡ false → (a ≡ false) × (b ≡ f
 unfolding _or_
 or-false true b e = absurd (clash true e refl)
 or-false false b e = (refl, e)
+
+pub or-true : (a : Bool) → (a or true) ≡ true
+unfolding _or_
+or-true true = refl
+or-true false = refl
+
+pub or-none : (a : Bool) → (a or false) ≡ a
+unfolding _or_
+or-none true = refl
+or-none false = refl
 
 -- A test at each number.
 pub every-make : (f : ℕ → Bool) (n : ℕ) → ((i : ℕ) → i < n → f i ≡ true) → every n f ≡ true
@@ -130,40 +142,65 @@ unfolding joined
 joined-length f k zero h = sym (zero-mul k)
 joined-length f k (suc n) h = length-append (joined f n) (f n) ∙ rw (joined-length f k n h, h n) (sym (suc-mul n k))
 
--- The first of four that passes.
-pub first-passes : (f : ℕ → Bool) → firstOf f < 4 → f (firstOf f) ≡ true
-unfolding firstOf
-first-passes f =
-    on-pick P (f 0) 0 _ (λ e l. e)
-    (λ _. on-pick P (f 1) 1 _ (λ e l. e)
-    (λ _. on-pick P (f 2) 2 _ (λ e l. e)
-    (λ _. on-pick P (f 3) 3 4 (λ e l. e) (λ _ l. absurd (omega arith)))))
-  where
-    P : ℕ → Type 0
-    P n = n < 4 → f n ≡ true
+-- equal lists
+pub joined-same : (f g : ℕ → List ℕ) (n : ℕ) → ((i : ℕ) → i < n → g i ≡ f i) → joined g n ≡ joined f n
+unfolding joined
+joined-same f g zero h = refl
+joined-same f g (suc n) h = rw (joined-same f g n (λ i k. h i (omega arith)), h n (omega arith))
 
--- none passes where there is no first
-pub first-none : (f : ℕ → Bool) → ltb (firstOf f) 4 ≡ (f 0 or f 1 or f 2 or f 3)
-unfolding firstOf
-first-none f = any (f 0) (f 1) (f 2) (f 3)
-  where
-    any : (a b c d : Bool) → ltb (pick a 0 (pick b 1 (pick c 2 (pick d 3 4)))) 4 ≡ (a or b or c or d)
-    any true b c d = unfold pick _or_ in refl
-    any false true c d = unfold pick _or_ in refl
-    any false false true d = unfold pick _or_ in refl
-    any false false false true = unfold pick _or_ in refl
-    any false false false false = unfold pick _or_ in refl
+-- The first that passes.
+pub record First (n : ℕ) (f : ℕ → Bool) (i : ℕ) : Type 0 where
+  pub below : i < n
+  pub passes : f i ≡ true
+  pub before : (j : ℕ) → j < i → f j ≡ false
 
-pub first-fails : (f : ℕ → Bool) → ltb (firstOf f) 4 ≡ false → (v : ℕ) → v < 4 → f v ≡ false
-first-fails f e v l =
-    let a = or-false (f 0) (f 1 or f 2 or f 3) (sym (first-none f) ∙ e) in
-    let b = or-false (f 1) (f 2 or f 3) (a .1) in
-    let c = or-false (f 2) (f 3) (b .1) in
-    go v l (a .0) (b .0) (c .0) (c .1)
+-- what holds where one is the first, and where none passes, holds of what is found
+pub on-first : (P : Found → Type 0) (n : ℕ) (f : ℕ → Bool) → ((i : ℕ) → First n f i → P (At i)) → (((j : ℕ) → j < n → f j ≡ false) → P Nowhere) → P (firstBelow n f)
+unfolding firstBelow
+on-first P zero f a b = b (λ j h. absurd (not-suc-le-zero h))
+on-first P (suc n) f a b =
+    on-first (λ x. P (orElse x (pick (f n) (At n) Nowhere))) n f
+    (λ i r. unfold orElse in (a i (record { below = omega (arith, r .below); passes = r .passes; before = r .before })))
+    (λ none. go (f n) refl none)
   where
-    go : (v : ℕ) → v < 4 → f 0 ≡ false → f 1 ≡ false → f 2 ≡ false → f 3 ≡ false → f v ≡ false
-    go zero l p q r s = p
-    go (suc zero) l p q r s = q
-    go (suc (suc zero)) l p q r s = r
-    go (suc (suc (suc zero))) l p q r s = s
-    go (suc (suc (suc (suc v)))) l p q r s = absurd (omega arith)
+    all-false : f n ≡ false → ((j : ℕ) → j < n → f j ≡ false) → (j : ℕ) → j < suc n → f j ≡ false
+    all-false e none j h =
+        ⊎-elim (λ (q : j ≡ n). ap f q ∙ e) (λ (l : j < n). none j l) (eq-or-lt-of-le (le-of-suc-le-suc h))
+
+    go : (x : Bool) → f n ≡ x → ((j : ℕ) → j < n → f j ≡ false) → P (orElse Nowhere (pick x (At n) Nowhere))
+    go true e none = unfold orElse pick in (a n (record { below = omega arith; passes = e; before = none }))
+    go false e none = unfold orElse pick in (b (all-false e none))
+
+-- a first one, and none, by what was seen of the numbers before it
+pub first-is : (n : ℕ) (f : ℕ → Bool) (i : ℕ) → First n f i → firstBelow n f ≡ At i
+first-is n f i r =
+    on-first (λ x. x ≡ At i) n f
+    (λ k q. ap At (same k q (ltb k i) refl (ltb i k) refl))
+    (λ none. absurd (clash (f i) (none i (r .below)) (r .passes)))
+  where
+    same : (k : ℕ) → First n f k → (x : Bool) → ltb k i ≡ x → (y : Bool) → ltb i k ≡ y → k ≡ i
+    same k q true x y e = absurd (clash (f k) (r .before k (ltb-true k i x)) (q .passes))
+    same k q false x true e = absurd (clash (f i) (q .before i (ltb-true i k e)) (r .passes))
+    same k q false x false e = omega (arith, ltb-false k i x, ltb-false i k e)
+
+pub first-nowhere : (n : ℕ) (f : ℕ → Bool) → ((j : ℕ) → j < n → f j ≡ false) → firstBelow n f ≡ Nowhere
+first-nowhere n f none =
+    on-first (λ x. x ≡ Nowhere) n f (λ i r. absurd (clash (f i) (none i (r .below)) (r .passes))) (λ _. refl)
+
+-- tests that agree find the same
+pub first-same : (n : ℕ) (f g : ℕ → Bool) → ((i : ℕ) → i < n → g i ≡ f i) → firstBelow n g ≡ firstBelow n f
+unfolding firstBelow
+first-same zero f g h = refl
+first-same (suc n) f g h = rw (first-same n f g (λ i l. h i (omega arith)), h n (omega arith))
+
+-- what was found
+pub first-facts : (n : ℕ) (f : ℕ → Bool) (i : ℕ) → firstBelow n f ≡ At i → First n f i
+unfolding isFound
+first-facts n f i =
+    on-first (λ x. x ≡ At i → First n f i) n f
+    (λ k r e. let q : k ≡ i = ap place-in e in rw q at r)
+    (λ _ e. absurd (clash false refl (ap isFound e)))
+  where
+    place-in : Found → ℕ
+    place-in (At k) = k
+    place-in Nowhere = 0

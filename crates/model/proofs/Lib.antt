@@ -6,6 +6,7 @@ pub mod Rules
 pub mod Sounds
 pub mod Ring
 pub mod Mask
+pub mod Events
 pub mod Replies
 pub mod Effects
 pub mod MemoryEffects
@@ -16,8 +17,8 @@ pub mod Lists
 pub mod Setup
 pub mod Delivers
 pub mod Demand3
+pub mod Handlers
 pub mod Kept
-pub mod Linked
-pub mod LateReply
-pub mod Pages
+pub mod WorkKept
 pub mod Day
+pub mod Encoding

@@ -9,26 +9,24 @@ use mathlib.Core.List.{List, [], _∷_, _++_, append-assoc, append-nil}
 use lib.ListN.{length, getD, length-append, List·getD-append}
 use lib.Seq.{getD-append-seam}
 use lib.Dec.{leb, eqb}
-use borrow.Author.Tests.{leb-true, leb-false, eqb-true}
+use borrow.Author.Tests.{leb-true, leb-false, ne-eqb}
 use Rattle.entry.specs.Word.{unpacked}
 use Rattle.model.specs.Choice.{pick}
-use Rattle.model.specs.Layout.{lastOf, heldOf, withCounts}
-use Rattle.model.specs.State.{sound}
 use Rattle.model.specs.declared.Event.{Event}
-use Rattle.model.specs.Journal.{Entry, fieldsOf, entryOf, stored, entryAt, entriesAt}
+use Rattle.model.specs.State.{sound}
 use Rattle.model.specs.Messages.{Effect}
-use Rattle.model.specs.Calls.{Call, receive, offer, withdraw, close, work, drain, Outcome, outcome, refused, accepted, decided, drained, draining}
+use Rattle.model.specs.Calls.{Call, act, drain, Action, accepted, drained, effectOf, pagesOf, refusalOf, refused}
 use Rattle.model.specs.Reading.{View, read, readEntry, reading, viewOf}
-use Rattle.model.specs.Demand3.{Run, drainedBy, numberedBy, after, next, runs, entries, noEntry}
-use Rattle.model.specs.Kept.{bufferOf, IsNoDrain}
-use Rattle.model.proofs.Choice.{on-pick}
+use Rattle.model.specs.Demand3.{Run, after, doing, drainedBy, entries, history, noEntry, numberedBy, runs}
 use Rattle.model.proofs.Words.{counts-length, last-counts, held-counts}
 use Rattle.model.proofs.View.{shape-moves, counts-view}
 use Rattle.model.proofs.Rules.{sound-facts}
 use Rattle.model.proofs.Sounds.{sound-counted}
 use Rattle.model.proofs.Ring.{fields-back, stored-same, stored-run, entries-snoc, entries-split, length-entries, entries-in, reading-append}
 use Rattle.model.proofs.Effects.{shape}
-use Rattle.model.proofs.Calls.{Taken, recorded}
+use Rattle.model.proofs.Calls.{Taken, taken, on-act, on-drain}
+use Rattle.model.specs.Journal.{Entry, entriesAt, entryAt, entryOf, fieldsOf, stored}
+use Rattle.model.specs.Layout.{heldOf, lastOf, stateWords, withCounts}
 
 -- entries numbered from 1 without gap or repeat, n in all, whose reading, begun from b, is v
 pub record Listed (b : View) (es : List Entry) (n : ℕ) (v : View) : Type 0 where
@@ -38,7 +36,7 @@ pub record Listed (b : View) (es : List Entry) (n : ℕ) (v : View) : Type 0 whe
 
 -- what a list of calls keeps
 pub record Kept (b : View) (u : Run) : Type 0 where
-  pub size : length (u .state) ≡ 191
+  pub size : length (u .state) ≡ stateWords
   pub sounds : sound (u .state) ≡ true
   pub last : lastOf (u .state) ≡ u .number
   pub held : length (u .drained) + heldOf (u .state) ≡ u .number
@@ -122,45 +120,23 @@ kept-grown b u e out k t =
       listed =
           rw (entries-grown b u e out k t, counts-view (e .state) w, k .last)
           (listed-more b (entries u) (u .number) (viewOf (u .state)) (viewOf (e .state)) (e .event) (k .listed)
-          (rw (← k .last) (fields-back (lastOf (u .state) + 1) (e .event) (g .range)))
+          (rw (← k .last) (fields-back (lastOf (u .state) + 1) (e .event) (g .entry .range)))
           (rw (← k .last) (sym (g .moves .view))));
     }
 
--- a call that is no drain, by what it gives back
-unfoldable pub grown-by : Run → Outcome → Run
-grown-by u r = record {
-  state = r .state;
-  journal = r .journal;
-  drained = u .drained ++ [];
-  number = u .number + pick (eqb (r .refusal) 0) 1 0;
-}
-
-kept-decided : (b : View) (u : Run) (out : List ℕ) (n : ℕ) (e : Effect) → Kept b u → (n ≡ 0 → Taken (u .state) (u .journal) out e) → Kept b (grown-by u (decided (u .state) (u .journal) out n e))
-unfolding decided
-kept-decided b u out n e k f =
-    on-pick (λ r. Kept b (grown-by u r)) _ _ _ (λ z. yes-case (f (eqb-true n 0 z))) (λ z. no-case z)
+kept-act : (b : View) (u : Run) (a : Action) (out : List ℕ) → Kept b u → Kept b (after u (doing u (act a out)))
+unfolding after drainedBy numberedBy
+kept-act b u a out k =
+    on-act (λ r. Kept b (after u (record { call = act a out; gave = r }))) (u .state) (u .journal) out a yes-case no-case
   where
-    yes-case : Taken (u .state) (u .journal) out e → Kept b (grown-by u (accepted (u .state) (u .journal) out e))
-    yes-case t = unfold grown-by accepted pick in rw append-nil (unfold grown in (kept-grown b u e out k t))
+    yes-case : refusalOf (u .state) (u .journal) out a ≡ 0 → Kept b (after u (record { call = act a out; gave = accepted (u .state) (u .journal) out (pagesOf (u .state) a) (effectOf (u .state) a) }))
+    yes-case z =
+        unfold after drainedBy numberedBy accepted pick in
+        rw append-nil
+        (unfold grown in (kept-grown b u (effectOf (u .state) a) out k (taken (u .state) (u .journal) out a (k .size) z)))
 
-    no-case : eqb n 0 ≡ false → Kept b (grown-by u (refused (u .state) (u .journal) out n))
-    no-case z = unfold grown-by refused pick in rw (append-nil, z, add-zero) k
-
-after-grown : (u : Run) (call : Call) (r : Outcome) → IsNoDrain call → after u call r ≡ grown-by u r
-unfolding after grown-by drainedBy numberedBy IsNoDrain
-after-grown u (receive c m out) r n = refl
-after-grown u (offer c v out) r n = refl
-after-grown u (withdraw c v out) r n = refl
-after-grown u (close c out) r n = refl
-after-grown u (work budget out) r n = refl
-after-grown u (drain run) r n = absurd n
-
-kept-recorded : (b : View) (u : Run) (call : Call) → IsNoDrain call → Kept b u → Kept b (next u call)
-unfolding next
-kept-recorded b u call n k =
-    let r = recorded (u .state) (u .journal) (k .size) call n in
-    rw (after-grown u call (outcome (u .state) (u .journal) call) n, r .same)
-    (kept-decided b u (bufferOf call) (r .refusal) (r .made) k (r .taken))
+    no-case : (refusalOf (u .state) (u .journal) out a ≡ 0 → ⊥) → Kept b (after u (record { call = act a out; gave = refused (u .state) (u .journal) out (refusalOf (u .state) (u .journal) out a) }))
+    no-case n = unfold after drainedBy numberedBy refused pick in rw (append-nil, ne-eqb _ 0 n, add-zero) k
 
 -- Drain: some of the oldest held entries have moved to those drained.
 shifted : Run → ℕ → Run
@@ -201,32 +177,28 @@ kept-shifted b u n h k =
           (k .listed);
     }
 
-kept-drained : (b : View) (u : Run) (run : List ℕ) (n : ℕ) → n ≤ heldOf (u .state) → Kept b u → Kept b (after u (drain run) (drained (u .state) (u .journal) run n))
+kept-drained : (b : View) (u : Run) (run : List ℕ) (n : ℕ) → n ≤ heldOf (u .state) → Kept b u → Kept b (after u (record { call = drain run; gave = drained (u .state) (u .journal) run n }))
 unfolding after drained drainedBy numberedBy pick shifted
 kept-drained b u run n h k =
     let a : lastOf (u .state) - heldOf (u .state) ≡ length (u .drained) = omega (arith, k .held, k .last) in
     rw (entries-in, a, add-zero) (kept-shifted b u n h k)
 
-kept-refused : (b : View) (u : Run) (run : List ℕ) (n : ℕ) → eqb n 0 ≡ false → Kept b u → Kept b (after u (drain run) (refused (u .state) (u .journal) run n))
+kept-refused : (b : View) (u : Run) (run : List ℕ) (n : ℕ) → (n ≡ 0 → ⊥) → Kept b u → Kept b (after u (record { call = drain run; gave = refused (u .state) (u .journal) run n }))
 unfolding after refused drainedBy numberedBy pick
-kept-refused b u run n z k = rw (z, add-zero, append-nil) k
+kept-refused b u run n z k = rw (ne-eqb n 0 z, add-zero, append-nil) k
 
-kept-drain : (b : View) (u : Run) (run : List ℕ) → Kept b u → Kept b (next u (drain run))
-unfolding next outcome draining
+kept-drain : (b : View) (u : Run) (run : List ℕ) → Kept b u → Kept b (after u (doing u (drain run)))
 kept-drain b u run k =
-    on-pick (λ r. Kept b (after u (drain run) r)) _ _ _
-    (λ z. kept-drained b u run _ (omega arith) k)
+    on-drain (λ r. Kept b (after u (record { call = drain run; gave = r }))) (u .state) (u .journal) run
+    (λ z n few e. kept-drained b u run n few k)
     (λ z. kept-refused b u run _ z k)
 
-kept-next : (b : View) (u : Run) (call : Call) → Kept b u → Kept b (next u call)
-kept-next b u (receive c m out) k = kept-recorded b u (receive c m out) (unfold IsNoDrain in tt) k
-kept-next b u (offer c v out) k = kept-recorded b u (offer c v out) (unfold IsNoDrain in tt) k
-kept-next b u (withdraw c v out) k = kept-recorded b u (withdraw c v out) (unfold IsNoDrain in tt) k
-kept-next b u (close c out) k = kept-recorded b u (close c out) (unfold IsNoDrain in tt) k
-kept-next b u (work budget out) k = kept-recorded b u (work budget out) (unfold IsNoDrain in tt) k
-kept-next b u (drain run) k = kept-drain b u run k
+-- a call, with what the definitions give for it
+pub kept-doing : (b : View) (u : Run) (call : Call) → Kept b u → Kept b (after u (doing u call))
+kept-doing b u (act a out) k = kept-act b u a out k
+kept-doing b u (drain run) k = kept-drain b u run k
 
-pub kept-runs : (b : View) (u : Run) (calls : List Call) → Kept b u → Kept b (runs u calls)
-unfolding runs
+pub kept-runs : (b : View) (u : Run) (calls : List Call) → Kept b u → Kept b (runs u (history u calls))
+unfolding runs history
 kept-runs b u [] k = k
-kept-runs b u (call ∷ calls) k = kept-runs b (next u call) calls (kept-next b u call k)
+kept-runs b u (call ∷ calls) k = kept-runs b (after u (doing u call)) calls (kept-doing b u call k)

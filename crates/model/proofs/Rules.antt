@@ -6,88 +6,85 @@ use mathlib.Core.List.{List}
 use Prim.Native.Nat.{ℕ, _+_, _/_, _%_, _<_, _≤_}
 use native.Mathlib.Omega.{arith}
 use lib.Dec.{leb, eqb}
-use borrow.Author.Tests.{not-true, leb-true, eqb-true, eqb-false, le-leb, eq-eqb, ne-eqb}
+use borrow.Author.Tests.{not-true, leb-true, ltb-true, eqb-true, eqb-false, le-leb, lt-ltb, eq-eqb, ne-eqb}
 use Rattle.model.specs.Choice.{pick, _and_, _or_, every}
 use Rattle.model.specs.declared.Removal.{Removal}
-use Rattle.model.specs.Layout.{readyAt, stageAt, handleAt, minorAt, blocksOf, Block, blockAt, lastOf, heldOf, outstandingOf, cancelledOf, isSet, removalOf}
-use Rattle.model.specs.Blocks.{endOf, blockKeeps, endBefore, blocksKeep}
-use Rattle.model.specs.State.{serviceSound, serviceSoundAt, handleApart, removalRoom, collectedSound, resultsSound, removalSound, outstandingSound, sound}
+use Rattle.model.specs.Layout.{readyAt, stageAt, handleAt, minorAt, blocksOf, Block, blockAt, lastOf, heldOf, outstandingOf, cancelledOf, isSet, removalOf, channelCount, firstBlockWord, highestMinor, highestNumber, mostBlocks, mostHeld, mostRecords, placeCount, serviceCount, stageIdle, stageOffered, stageRegistered}
+use Rattle.model.specs.Blocks.{endOf, blockKeeps, endBefore, blocksKeep, highestEnd, mostPages, pageSize}
+use Rattle.model.specs.State.{serviceSound, serviceSoundAt, handleApart, removalRoom, collectedSound, resultsSound, removalSound, outstandingSound, sound, isOurs, ourHandle}
 use Rattle.model.proofs.Choice.{clash, both, join, every-at, every-make}
+
+-- The handles that are ours.
+pub record Ours (first last handle : ℕ) : Type 0 where
+  pub least : ourHandle first ≤ handle
+  pub most : handle ≤ ourHandle last
+
+module _ (first last handle : ℕ) where
+  pub ours-facts : isOurs first last handle ≡ true → Ours first last handle
+  unfolding isOurs
+  ours-facts e = let p = both _ _ e in record { least = leb-true _ _ (p .0); most = leb-true _ _ (p .1) }
+
+  pub ours-test : Ours first last handle → isOurs first last handle ≡ true
+  unfolding isOurs
+  ours-test o = join _ _ (le-leb _ _ (o .least)) (le-leb _ _ (o .most))
+
+pub ours-later : (first last last′ handle : ℕ) → last ≤ last′ → Ours first last handle → Ours first last′ handle
+ours-later first last last′ handle le o = record { least = o .least; most = omega (arith, o .most) }
 
 -- A live service.
 pub record Live (stage handle ready last : ℕ) : Type 0 where
-  pub stages : stage ≤ 2
+  pub stages : stage ≤ stageRegistered
   pub isReady : ready ≡ 1
-  pub some : 1 ≤ handle
-  pub used : handle ≤ last
+  pub ours : Ours 1 last handle
 
 module _ (stage handle minor ready last : ℕ) where
-  pub idle-rule : stage ≡ 0 → serviceSound stage handle minor ready last ≡ (eqb handle 0 and eqb minor 0)
-  unfolding serviceSound pick
-  idle-rule e = rw (eq-eqb stage 0 e)
+  pub service-idle : stage ≡ stageIdle → serviceSound stage handle minor ready last ≡ true
+  unfolding serviceSound _or_
+  service-idle e = rw (eq-eqb stage stageIdle e)
 
-  pub live-rules : (stage ≡ 0 → ⊥) → serviceSound stage handle minor ready last ≡ true → Live stage handle ready last
-  unfolding serviceSound pick
+  pub live-rules : (stage ≡ stageIdle → ⊥) → serviceSound stage handle minor ready last ≡ true → Live stage handle ready last
+  unfolding serviceSound _or_
   live-rules n t =
-      let t1 = both _ _ (rw (ne-eqb stage 0 n) at t) in
+      let t1 = both _ _ (rw (ne-eqb stage stageIdle n) at t) in
       let t2 = both _ _ (t1 .1) in
       let t3 = both _ _ (t2 .1) in
-      let t4 = both _ _ (t3 .1) in
       record {
         stages = leb-true _ _ (t1 .0);
         isReady = eqb-true _ _ (t2 .0);
-        some = leb-true _ _ (t3 .0);
-        used = leb-true _ _ (t4 .0);
+        ours = ours-facts 1 last handle (t3 .0);
       }
 
-  pub live-last : (stage ≡ 0 → ⊥) → Live stage handle ready last → serviceSound stage handle minor ready last ≡ pick (eqb stage 1) (eqb minor 0) (leb minor 65535)
-  unfolding serviceSound _and_ pick
+  -- where those hold, the minor decides
+  pub live-last : (stage ≡ stageIdle → ⊥) → Live stage handle ready last → serviceSound stage handle minor ready last ≡ (eqb stage stageOffered or leb minor highestMinor)
+  unfolding serviceSound _and_ _or_
   live-last n r =
       rw (
-        ne-eqb stage 0 n,
+        ne-eqb stage stageIdle n,
         le-leb _ _ (r .stages),
         eq-eqb _ _ (r .isReady),
-        le-leb _ _ (r .some),
-        le-leb _ _ (r .used),
+        ours-test 1 last handle (r .ours),
       )
 
--- a service is as sound with a later last number, and its handle is at most the last
+-- a service is as sound with a later last number
 pub service-later : (stage handle minor ready last last′ : ℕ) → last ≤ last′ → serviceSound stage handle minor ready last ≡ true → serviceSound stage handle minor ready last′ ≡ true
-service-later g h m r l l′ le e = go (eqb g 0) refl
+service-later g h m r l l′ le e = go (eqb g stageIdle) refl
   where
-    go : (b : Bool) → eqb g 0 ≡ b → serviceSound g h m r l′ ≡ true
-    go true z = let q = eqb-true g 0 z in idle-rule g h m r l′ q ∙ sym (idle-rule g h m r l q) ∙ e
+    go : (b : Bool) → eqb g stageIdle ≡ b → serviceSound g h m r l′ ≡ true
+    go true z = service-idle g h m r l′ (eqb-true g stageIdle z)
     go false z =
-        let q = eqb-false g 0 z in
+        let q = eqb-false g stageIdle z in
         let v = live-rules g h m r l q e in
-        live-last g h m r l′ q (record {
-          stages = v .stages;
-          isReady = v .isReady;
-          some = v .some;
-          used = omega (arith, v .used);
-        })
+        live-last g h m r l′ q
+        (record { stages = v .stages; isReady = v .isReady; ours = ours-later 1 l l′ h le (v .ours) })
         ∙ sym (live-last g h m r l q v)
         ∙ e
 
-pub service-used : (stage handle minor ready last : ℕ) → serviceSound stage handle minor ready last ≡ true → handle ≤ last
-service-used g h m r l e = go (eqb g 0) refl
-  where
-    go : (b : Bool) → eqb g 0 ≡ b → h ≤ l
-    go true z =
-        let p = both (eqb h 0) (eqb m 0) (sym (idle-rule g h m r l (eqb-true g 0 z)) ∙ e) in
-        omega (arith, eqb-true h 0 (p .0))
-    go false z = live-rules g h m r l (eqb-false g 0 z) e .used
-
-pub service-idle : (ready last : ℕ) → serviceSound 0 0 0 ready last ≡ true
-unfolding serviceSound pick _and_
-service-idle ready last = refl
-
 -- The rules of a block that are of numbers.
 pub record Keeps (b : Block) (floor : ℕ) : Type 0 where
-  pub aligned : b .base % 8192 ≡ 0
+  pub aligned : b .base % pageSize ≡ 0
   pub some : 1 ≤ b .pages
-  pub few : b .pages ≤ 1048576
-  pub below : endOf b ≤ 9223372036854775808
+  pub few : b .pages ≤ mostPages
+  pub below : endOf b ≤ highestEnd
   pub above : floor ≤ b .base
   pub within : b .first + b .permanent ≤ b .pages
   pub flag : b .configured ≤ 1
@@ -129,20 +126,31 @@ module _ (b : Block) (floor : ℕ) where
         le-leb _ _ (r .flag),
       )
 
+-- "live handles differ"
+abbrev pub Apart : List ℕ → Type 0
+Apart s =
+    (j k : ℕ) →
+    j < k →
+    k < placeCount →
+    (stageAt s j ≡ stageIdle → ⊥) →
+    (stageAt s k ≡ stageIdle → ⊥) →
+    handleAt s j ≡ handleAt s k →
+    ⊥
+
 -- All of a sound state but its counts and its removal, for a last number that may be later than the state's own.
 pub record Base (s : List ℕ) (last : ℕ) : Type 0 where
-  pub few : blocksOf s ≤ 16
-  pub blocks : (i : ℕ) → i < blocksOf s → blockKeeps (blockAt s i) (endBefore s 53 i) ≡ true
-  pub ready : (c : ℕ) → c < 4 → readyAt s c ≤ 1
-  pub services : (k : ℕ) → k < 16 → serviceSound (stageAt s k) (handleAt s k) (minorAt s k) (readyAt s (k / 4)) last ≡ true
-  pub apart : (j k : ℕ) → j < k → k < 16 → handleAt s j ≡ handleAt s k → handleAt s k ≡ 0
+  pub few : blocksOf s ≤ mostBlocks
+  pub blocks : (i : ℕ) → i < blocksOf s → blockKeeps (blockAt s i) (endBefore s firstBlockWord i) ≡ true
+  pub ready : (c : ℕ) → c < channelCount → readyAt s c ≤ 1
+  pub services : (k : ℕ) → k < placeCount → serviceSound (stageAt s k) (handleAt s k) (minorAt s k) (readyAt s (k / serviceCount)) last ≡ true
+  pub apart : Apart s
 
 -- The facts of a removal.
 pub record RemovalFacts (s : List ℕ) (last : ℕ) (m : Removal) : Type 0 where
-  pub channels : m .channel ≤ 3
-  pub handles : m .handle ≤ last
+  pub channels : m .channel < channelCount
+  pub handles : Ours 0 last (m .handle)
   pub some : 1 ≤ m .count
-  pub few : m .count ≤ 16
+  pub few : m .count ≤ mostRecords
   pub within : m .position ≤ m .count
   pub room : collectedSound (m .collected) (removalRoom s m) ≡ true
   pub results : resultsSound m ≡ true
@@ -157,8 +165,8 @@ abbrev pub Removes : List ℕ → ℕ → Type 0
 Removes s last = isSet (outstandingOf s) ≡ true → Outstanding s last
 
 pub record Counts (s : List ℕ) : Type 0 where
-  pub lasts : lastOf s ≤ 4294967295
-  pub helds : heldOf s ≤ 64
+  pub lasts : lastOf s ≤ highestNumber
+  pub helds : heldOf s ≤ mostHeld
   pub numbered : heldOf s ≤ lastOf s
 
 pub record Sound (s : List ℕ) : Type 0 where
@@ -177,8 +185,8 @@ module _ (s : List ℕ) (last : ℕ) (m : Removal) where
       let t5 = both _ _ (t4 .1) in
       let t6 = both _ _ (t5 .1) in
       record {
-        channels = leb-true _ _ (t1 .0);
-        handles = leb-true _ _ (t2 .0);
+        channels = ltb-true _ _ (t1 .0);
+        handles = ours-facts 0 last (m .handle) (t2 .0);
         some = leb-true _ _ (t3 .0);
         few = leb-true _ _ (t4 .0);
         within = leb-true _ _ (t5 .0);
@@ -190,8 +198,8 @@ module _ (s : List ℕ) (last : ℕ) (m : Removal) where
   unfolding removalSound _and_
   removal-test r =
       rw (
-        le-leb _ _ (r .channels),
-        le-leb _ _ (r .handles),
+        lt-ltb _ _ (r .channels),
+        ours-test 0 last (m .handle) (r .handles),
         le-leb _ _ (r .some),
         le-leb _ _ (r .few),
         le-leb _ _ (r .within),
@@ -200,23 +208,36 @@ module _ (s : List ℕ) (last : ℕ) (m : Removal) where
       )
 
 module _ (s : List ℕ) where
-  apart-facts : every 16 (λ k. handleApart s k) ≡ true → (j k : ℕ) → j < k → k < 16 → handleAt s j ≡ handleAt s k → handleAt s k ≡ 0
-  unfolding handleApart _or_
-  apart-facts e j k l h q = go (eqb (handleAt s k) 0) refl (every-at (λ k. handleApart s k) 16 k e h)
-    where
-      go : (b : Bool) → eqb (handleAt s k) 0 ≡ b → (b or every k (λ j. not (eqb (handleAt s j) (handleAt s k)))) ≡ true → handleAt s k ≡ 0
-      go true z t = eqb-true _ 0 z
-      go false z t = absurd (clash _ (not-true _ (every-at (λ j. not (eqb (handleAt s j) (handleAt s k))) k j t l)) (eq-eqb _ _ q))
+  -- the test of two services
+  differs : ℕ → ℕ → Bool
+  differs k j = eqb (stageAt s j) stageIdle or not (eqb (handleAt s j) (handleAt s k))
 
-  apart-test : ((j k : ℕ) → j < k → k < 16 → handleAt s j ≡ handleAt s k → handleAt s k ≡ 0) → every 16 (λ k. handleApart s k) ≡ true
-  unfolding handleApart _or_
-  apart-test f = every-make (λ k. handleApart s k) 16 (λ k h. go k h (eqb (handleAt s k) 0) refl)
+  apart-facts : every placeCount (λ k. handleApart s k) ≡ true → Apart s
+  unfolding handleApart _or_ differs
+  apart-facts e j k l h p q r = go (eqb (stageAt s k) stageIdle) refl (every-at (λ k. handleApart s k) placeCount k e h)
     where
-      go : (k : ℕ) → k < 16 → (b : Bool) → eqb (handleAt s k) 0 ≡ b → (b or every k (λ j. not (eqb (handleAt s j) (handleAt s k)))) ≡ true
+      two : (x : Bool) → eqb (stageAt s j) stageIdle ≡ x → (x or not (eqb (handleAt s j) (handleAt s k))) ≡ true → ⊥
+      two true z t = p (eqb-true _ stageIdle z)
+      two false z t = clash _ (not-true _ t) (eq-eqb _ _ r)
+
+      go : (b : Bool) → eqb (stageAt s k) stageIdle ≡ b → (b or every k (differs k)) ≡ true → ⊥
+      go true z t = q (eqb-true _ stageIdle z)
+      go false z t = two (eqb (stageAt s j) stageIdle) refl (every-at (differs k) k j t l)
+
+  apart-test : Apart s → every placeCount (λ k. handleApart s k) ≡ true
+  unfolding handleApart _or_ differs
+  apart-test f = every-make (λ k. handleApart s k) placeCount (λ k h. go k h (eqb (stageAt s k) stageIdle) refl)
+    where
+      two : (j k : ℕ) → j < k → k < placeCount → (stageAt s k ≡ stageIdle → ⊥) → (x : Bool) → eqb (stageAt s j) stageIdle ≡ x → (x or not (eqb (handleAt s j) (handleAt s k))) ≡ true
+      two j k l h n true z = refl
+      two j k l h n false z =
+          ap not (ne-eqb (handleAt s j) (handleAt s k) (λ q. f j k l h (eqb-false _ stageIdle z) n q))
+
+      go : (k : ℕ) → k < placeCount → (b : Bool) → eqb (stageAt s k) stageIdle ≡ b → (b or every k (differs k)) ≡ true
       go k h true z = refl
       go k h false z =
-          every-make (λ j. not (eqb (handleAt s j) (handleAt s k))) k
-          (λ j l. ap not (ne-eqb (handleAt s j) (handleAt s k) (λ q. eqb-false _ 0 z (f j k l h q))))
+          every-make (differs k) k
+          (λ j l. two j k l h (eqb-false _ stageIdle z) (eqb (stageAt s j) stageIdle) refl)
 
   removes-facts : outstandingSound s ≡ true → Removes s (lastOf s)
   unfolding outstandingSound _or_
@@ -256,10 +277,10 @@ module _ (s : List ℕ) where
       let t7 = both _ _ (t6 .1) in
       record {
         base = record {
-          few = leb-true _ 16 (b1 .0);
-          blocks = λ i h. every-at (λ i. blockKeeps (blockAt s i) (endBefore s 53 i)) (blocksOf s) i (b1 .1) h;
-          ready = λ c h. leb-true _ 1 (every-at (λ c. leb (readyAt s c) 1) 4 c (t2 .0) h);
-          services = λ k h. every-at (λ k. serviceSoundAt s k) 16 k (t3 .0) h;
+          few = leb-true _ mostBlocks (b1 .0);
+          blocks = λ i h. every-at (λ i. blockKeeps (blockAt s i) (endBefore s firstBlockWord i)) (blocksOf s) i (b1 .1) h;
+          ready = λ c h. leb-true _ 1 (every-at (λ c. leb (readyAt s c) 1) channelCount c (t2 .0) h);
+          services = λ k h. every-at (λ k. serviceSoundAt s k) placeCount k (t3 .0) h;
           apart = apart-facts (t4 .0);
         };
         removal = removes-facts (t7 .1);
@@ -275,9 +296,9 @@ module _ (s : List ℕ) where
   sound-test f =
       let b = f .base in
       join _ _
-      (join _ _ (le-leb _ 16 (b .few)) (every-make (λ i. blockKeeps (blockAt s i) (endBefore s 53 i)) (blocksOf s) (b .blocks)))
-      (join _ _ (every-make (λ c. leb (readyAt s c) 1) 4 (λ c h. le-leb _ 1 (b .ready c h)))
-      (join _ _ (every-make (λ k. serviceSoundAt s k) 16 (b .services))
+      (join _ _ (le-leb _ mostBlocks (b .few)) (every-make (λ i. blockKeeps (blockAt s i) (endBefore s firstBlockWord i)) (blocksOf s) (b .blocks)))
+      (join _ _ (every-make (λ c. leb (readyAt s c) 1) channelCount (λ c h. le-leb _ 1 (b .ready c h)))
+      (join _ _ (every-make (λ k. serviceSoundAt s k) placeCount (b .services))
       (join _ _ (apart-test (b .apart))
       (join _ _ (le-leb _ _ (f .counts .lasts))
       (join _ _ (le-leb _ _ (f .counts .helds))
@@ -302,7 +323,7 @@ removes-later s last last′ le f o =
       flag = r .flag;
       facts = record {
         channels = m .channels;
-        handles = omega (arith, m .handles);
+        handles = ours-later 0 last last′ (removalOf s .handle) le (m .handles);
         some = m .some;
         few = m .few;
         within = m .within;
@@ -310,3 +331,7 @@ removes-later s last last′ le f o =
         results = m .results;
       };
     }
+
+-- the rules of a sound state's block
+pub sound-block : (s : List ℕ) (i : ℕ) → sound s ≡ true → i < blocksOf s → Keeps (blockAt s i) (endBefore s firstBlockWord i)
+sound-block s i e h = block-rules _ _ (sound-facts s e .base .blocks i h) .0

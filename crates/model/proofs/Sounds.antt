@@ -7,66 +7,58 @@ use Prim.Native.Nat.{ℕ, zero, suc, _+_, _-_, _*_, _/_, _<_, _≤_}
 use native.Mathlib.Omega.{arith}
 use lib.ListN.{length, getD}
 use lib.Dec.{eqb}
-use borrow.Author.Tests.{eqb-true, eqb-false, eq-eqb, not-true, ltb-true}
+use borrow.Author.Tests.{eqb-true, eqb-false, eq-eqb, not-true}
 use Rattle.model.specs.Choice.{pick, _and_}
 use Rattle.model.specs.declared.Removal.{Removal}
-use Rattle.model.specs.Layout.{readyAt, stageAt, handleAt, minorAt, blocksOf, Block, blockAt, outstandingOf, wordOf, removalOf, withChannel, withService, withConfigured, withCounts, withRemoval, withoutRemoval}
-use Rattle.model.specs.Blocks.{endOf, blockKeeps, endBefore, names, namedBelow, namedBlock, isNamed}
-use Rattle.model.specs.State.{serviceSound, roomOf, removalRoom, sound}
+use Rattle.model.specs.Layout.{readyAt, stageAt, handleAt, minorAt, blocksOf, Block, blockAt, outstandingOf, wordOf, removalOf, withChannel, withService, withConfigured, withCounts, withRemoval, withoutRemoval, blockCountWord, cancelledWord, channelCount, channelWords, firstBlockWord, firstHandleWord, firstMinorWord, firstStageWord, highestNumber, lastWord, mostBlocks, mostHeld, outstandingWord, placeCount, serviceCount, serviceWords, stateWords, stageIdle}
+use Rattle.model.specs.Blocks.{endOf, blockKeeps, endBefore, names, namedBlock}
+use Rattle.model.specs.State.{serviceSound, roomOf, removalRoom, sound, roomAt}
 use Rattle.model.specs.Reading.{flagged}
-use Rattle.model.proofs.Choice.{clash}
+use Rattle.model.proofs.Choice.{clash, first-same, first-facts}
+use Rattle.model.specs.declared.Found.{Found}
+use Rattle.model.specs.declared.Found.the-variants.{At, Nowhere}
 use Rattle.model.proofs.Words.{Agree, Arrays, service-frame, service-word, configured-frame, counts-frame, last-counts, held-counts, channel-frame, channel-ready, channel-zero, removal-frame, removal-same, removal-back, head-back, without-frame}
 use Rattle.model.proofs.View.{block-same, flag-other, flag-here}
-use Rattle.model.proofs.Rules.{Base, block-rules, block-last, Removes, RemovalFacts, service-idle, sound-test}
+use Rattle.model.proofs.Rules.{Base, Apart, block-rules, block-last, Removes, RemovalFacts, service-idle, sound-test}
 
--- The search for a block goes by bases and sizes.
-pub named-same : (s t : List ℕ) (addr size n : ℕ) → ((i : ℕ) → i < n → names addr size (blockAt t i) ≡ names addr size (blockAt s i)) → namedBelow t addr size n ≡ namedBelow s addr size n
-unfolding namedBelow
-named-same s t addr size zero h = refl
-named-same s t addr size (suc n) h = rw (named-same s t addr size n (λ i l. h i (omega arith)), h n (omega arith))
-
-pub named-less : (s : List ℕ) (addr size : ℕ) → isNamed s addr size ≡ true → namedBlock s addr size < blocksOf s
-unfolding isNamed
-named-less s addr size e = ltb-true _ _ e
+-- a block that a pair names is one of the state's
+pub named-less : (s : List ℕ) (addr size i : ℕ) → namedBlock s addr size ≡ At i → i < blocksOf s
+unfolding namedBlock
+named-less s addr size i e = first-facts (blocksOf s) _ i e .below
 
 -- Blocks as before.
-module _ (s t : List ℕ) (few : blocksOf s ≤ 16) (a : Agree s t 52 133) where
+module _ (s t : List ℕ) (few : blocksOf s ≤ mostBlocks) (a : Agree s t blockCountWord lastWord) where
   count-same : blocksOf t ≡ blocksOf s
-  count-same = a 52 (omega arith) (omega arith)
+  count-same = a blockCountWord (omega arith) (omega arith)
 
-  at-same : (i : ℕ) → i < 16 → blockAt t i ≡ blockAt s i
+  at-same : (i : ℕ) → i < mostBlocks → blockAt t i ≡ blockAt s i
   at-same i h = block-same s t i h (λ j lo hi. a j (omega arith) hi)
 
-  end-same : (i : ℕ) → i < 16 → endBefore t 53 i ≡ endBefore s 53 i
+  end-same : (i : ℕ) → i < mostBlocks → endBefore t firstBlockWord i ≡ endBefore s firstBlockWord i
   unfolding endBefore
   end-same zero h = refl
   end-same (suc i) h = rw (at-same i (omega arith))
 
   block-named : (addr size : ℕ) → namedBlock t addr size ≡ namedBlock s addr size
+  unfolding namedBlock
   block-named addr size =
-      rw count-same (named-same s t addr size (blocksOf s) (λ i h. rw (at-same i (omega arith))))
-
-  is-named : (addr size : ℕ) → isNamed t addr size ≡ isNamed s addr size
-  unfolding isNamed
-  is-named addr size = rw (block-named addr size, count-same)
+      rw count-same
+      (first-same (blocksOf s) (λ i. names addr size (blockAt s i)) (λ i. names addr size (blockAt t i))
+      (λ i h. ap (names addr size) (at-same i (omega (arith, few)))))
 
   room-same : (addr size : ℕ) → roomOf t addr size ≡ roomOf s addr size
-  unfolding roomOf
-  room-same addr size = rw (is-named addr size, block-named addr size) (go (isNamed s addr size) refl)
+  room-same addr size = rw (block-named addr size) (go (namedBlock s addr size) refl)
     where
-      k : ℕ
-      k = namedBlock s addr size
-
-      go : (b : Bool) → isNamed s addr size ≡ b → pick (b and eqb (blockAt t k .configured) 1) (blockAt t k .pages) 0 ≡ pick (b and eqb (blockAt s k .configured) 1) (blockAt s k .pages) 0
-      go true e = rw (at-same k (omega (arith, named-less s addr size e)))
-      go false e = unfold pick _and_ in refl
+      go : (x : Found) → namedBlock s addr size ≡ x → roomAt t x ≡ roomAt s x
+      go (At i) e = unfold roomAt in rw (at-same i (omega (arith, few, named-less s addr size i e)))
+      go Nowhere e = unfold roomAt in refl
 
   pub removal-room : (m : Removal) → removalRoom t m ≡ removalRoom s m
   unfolding removalRoom
   removal-room m = rw (room-same (getD (m .address) (m .position) 0) (getD (m .size) (m .position) 0))
 
 -- The base as before but for channels and services.
-pub base-make : (s t : List ℕ) (last : ℕ) → Base s last → Agree s t 52 133 → ((c : ℕ) → c < 4 → readyAt t c ≤ 1) → ((k : ℕ) → k < 16 → serviceSound (stageAt t k) (handleAt t k) (minorAt t k) (readyAt t (k / 4)) last ≡ true) → ((j k : ℕ) → j < k → k < 16 → handleAt t j ≡ handleAt t k → handleAt t k ≡ 0) → Base t last
+pub base-make : (s t : List ℕ) (last : ℕ) → Base s last → Agree s t blockCountWord lastWord → ((c : ℕ) → c < channelCount → readyAt t c ≤ 1) → ((k : ℕ) → k < placeCount → serviceSound (stageAt t k) (handleAt t k) (minorAt t k) (readyAt t (k / serviceCount)) last ≡ true) → Apart t → Base t last
 base-make s t last b a r v d =
     let n = count-same s t (b .few) a in
     record {
@@ -77,27 +69,48 @@ base-make s t last b a r v d =
       apart = d;
     }
 
+-- channels and services as before
+pub record LowSame (s t : List ℕ) : Type 0 where
+  pub ready : (c : ℕ) → c < channelCount → readyAt t c ≡ readyAt s c
+  pub stage : (k : ℕ) → k < placeCount → stageAt t k ≡ stageAt s k
+  pub handle : (k : ℕ) → k < placeCount → handleAt t k ≡ handleAt s k
+  pub minor : (k : ℕ) → k < placeCount → minorAt t k ≡ minorAt s k
+
+low-same : (s t : List ℕ) → Agree s t 0 blockCountWord → LowSame s t
+low-same s t a = record {
+  ready = λ c h. a c (omega arith) (omega arith);
+  stage = λ k h. a (firstStageWord + k * serviceWords) (omega arith) (omega arith);
+  handle = λ k h. a (firstHandleWord + k * serviceWords) (omega arith) (omega arith);
+  minor = λ k h. a (firstMinorWord + k * serviceWords) (omega arith) (omega arith);
+}
+
+module _ (s t : List ℕ) (last : ℕ) (b : Base s last) (f : LowSame s t) where
+  ready-kept : (c : ℕ) → c < channelCount → readyAt t c ≤ 1
+  ready-kept c h = rw (f .ready c h) (b .ready c h)
+
+  services-kept : (k : ℕ) → k < placeCount → serviceSound (stageAt t k) (handleAt t k) (minorAt t k) (readyAt t (k / serviceCount)) last ≡ true
+  services-kept k h =
+      rw (f .stage k h, f .handle k h, f .minor k h, f .ready (k / serviceCount) (omega arith)) (b .services k h)
+
+  apart-kept : Apart t
+  apart-kept j k l h p q r =
+      let g : j < placeCount = omega arith in
+      b .apart j k l h (λ e. p (f .stage j g ∙ e)) (λ e. q (f .stage k h ∙ e)) (sym (f .handle j g) ∙ r ∙ f .handle k h)
+
 -- all of it as before
-pub base-same : (s t : List ℕ) (last : ℕ) → Agree s t 0 133 → Base s last → Base t last
+pub base-same : (s t : List ℕ) (last : ℕ) → Agree s t 0 lastWord → Base s last → Base t last
 base-same s t last a b =
-    let w : (j : ℕ) → j < 133 → getD t j 0 ≡ getD s j 0 = λ j h. a j (omega arith) h in
-    base-make s t last b (λ j lo hi. a j (omega arith) hi)
-    (λ c h. rw (w c (omega arith)) (b .ready c h))
-    (λ k h.
-    rw (w (4 + k * 3) (omega arith), w (5 + k * 3) (omega arith), w (6 + k * 3) (omega arith), w (k / 4) (omega arith))
-    (b .services k h))
-    (λ j k l h.
-    rw (w (5 + j * 3) (omega arith), w (5 + k * 3) (omega arith))
-    (b .apart j k l h))
+    let f = low-same s t (λ j lo hi. a j lo (omega arith)) in
+    base-make s t last b (λ j lo hi. a j (omega arith) hi) (ready-kept s t last b f) (services-kept s t last b f) (apart-kept s t last b f)
 
 -- the removal as before
-pub removes-same : (s t : List ℕ) (last : ℕ) → blocksOf s ≤ 16 → Agree s t 52 133 → Agree s t 135 191 → Removes s last → Removes t last
+pub removes-same : (s t : List ℕ) (last : ℕ) → blocksOf s ≤ mostBlocks → Agree s t blockCountWord lastWord → Agree s t outstandingWord stateWords → Removes s last → Removes t last
 removes-same s t last few a b f o =
-    let r = f (rw (b 135 (omega arith) (omega arith)) at o) in
+    let r = f (rw (b outstandingWord (omega arith) (omega arith)) at o) in
     let m = r .facts in
     record {
-      one = b 135 (omega arith) (omega arith) ∙ r .one;
-      flag = rw (b 136 (omega arith) (omega arith)) (r .flag);
+      one = b outstandingWord (omega arith) (omega arith) ∙ r .one;
+      flag = rw (b cancelledWord (omega arith) (omega arith)) (r .flag);
       facts =
           rw (removal-same s t b)
           (record {
@@ -112,75 +125,78 @@ removes-same s t last few a b f o =
     }
 
 -- One service changed: it is sound by itself, and its handle is no other service's, or 0.
-module _ (s : List ℕ) (last k₀ stage handle minor : ℕ) (size : length s ≡ 191) (b : Base s last) (kb : k₀ < 16) where
+module _ (s : List ℕ) (last k₀ stage handle minor : ℕ) (size : length s ≡ stateWords) (b : Base s last) (kb : k₀ < placeCount) where
   served : List ℕ
   served = withService s k₀ stage handle minor
 
-  off : (j : ℕ) → (4 + k₀ * 3 ≤ j → j < 7 + k₀ * 3 → ⊥) → getD served j 0 ≡ getD s j 0
+  off : (j : ℕ) → (firstStageWord + k₀ * serviceWords ≤ j → j < firstStageWord + serviceWords + k₀ * serviceWords → ⊥) → getD served j 0 ≡ getD s j 0
   unfolding served
   off j n = service-frame s k₀ stage handle minor j (λ p q. n p (omega arith))
 
-  here : (i : ℕ) → i < 3 → getD served (4 + i + k₀ * 3) 0 ≡ getD (stage ∷ handle ∷ minor ∷ []) i 0
+  here : (i : ℕ) → i < serviceWords → getD served (firstStageWord + i + k₀ * serviceWords) 0 ≡ getD (stage ∷ handle ∷ minor ∷ []) i 0
   unfolding served
   here i h = ap (λ (j : ℕ). getD (withService s k₀ stage handle minor) j 0) (omega arith) ∙ service-word s k₀ stage handle minor size kb i h
 
-  other : (k i : ℕ) → i < 3 → (k ≡ k₀ → ⊥) → getD served (4 + i + k * 3) 0 ≡ getD s (4 + i + k * 3) 0
-  other k i h n = off (4 + i + k * 3) (λ p q. n (omega arith))
+  other : (k i : ℕ) → i < serviceWords → (k ≡ k₀ → ⊥) → getD served (firstStageWord + i + k * serviceWords) 0 ≡ getD s (firstStageWord + i + k * serviceWords) 0
+  other k i h n = off (firstStageWord + i + k * serviceWords) (λ p q. n (omega arith))
 
-  ready-t : (c : ℕ) → c < 4 → readyAt served c ≡ readyAt s c
+  ready-t : (c : ℕ) → c < channelCount → readyAt served c ≡ readyAt s c
   ready-t c h = off c (λ p q. omega arith)
 
-  pub base-service : serviceSound stage handle minor (readyAt s (k₀ / 4)) last ≡ true → ((k : ℕ) → k < 16 → (k ≡ k₀ → ⊥) → handleAt s k ≡ handle → handle ≡ 0) → Base (withService s k₀ stage handle minor) last
+  pub base-service : serviceSound stage handle minor (readyAt s (k₀ / serviceCount)) last ≡ true → ((k : ℕ) → k < placeCount → (k ≡ k₀ → ⊥) → (stageAt s k ≡ stageIdle → ⊥) → (stage ≡ stageIdle → ⊥) → handleAt s k ≡ handle → ⊥) → Base (withService s k₀ stage handle minor) last
   unfolding served
   base-service ok fresh =
       base-make s served last b (λ j lo hi. off j (λ p q. omega arith)) (λ c h. rw (ready-t c h) (b .ready c h)) services apart
     where
-      services : (k : ℕ) → k < 16 → serviceSound (stageAt served k) (handleAt served k) (minorAt served k) (readyAt served (k / 4)) last ≡ true
+      services : (k : ℕ) → k < placeCount → serviceSound (stageAt served k) (handleAt served k) (minorAt served k) (readyAt served (k / serviceCount)) last ≡ true
       services k h = go (eqb k k₀) refl
         where
-          go : (x : Bool) → eqb k k₀ ≡ x → serviceSound (stageAt served k) (handleAt served k) (minorAt served k) (readyAt served (k / 4)) last ≡ true
+          go : (x : Bool) → eqb k k₀ ≡ x → serviceSound (stageAt served k) (handleAt served k) (minorAt served k) (readyAt served (k / serviceCount)) last ≡ true
           go true z =
               let q = eqb-true k k₀ z in
-              rw (q, here 0 (omega arith), here 1 (omega arith), here 2 (omega arith), ready-t (k₀ / 4) (omega arith)) ok
+              rw (q, here 0 (omega arith), here 1 (omega arith), here 2 (omega arith), ready-t (k₀ / serviceCount) (omega arith)) ok
           go false z =
               let n = eqb-false k k₀ z in
-              rw (other k 0 (omega arith) n, other k 1 (omega arith) n, other k 2 (omega arith) n, ready-t (k / 4) (omega arith))
+              rw (other k 0 (omega arith) n, other k 1 (omega arith) n, other k 2 (omega arith) n, ready-t (k / serviceCount) (omega arith))
               (b .services k h)
 
-      apart : (j k : ℕ) → j < k → k < 16 → handleAt served j ≡ handleAt served k → handleAt served k ≡ 0
-      apart j k l h q = go (eqb j k₀) refl (eqb k k₀) refl
+      -- the changed service against another one
+      clear : (k : ℕ) → k < placeCount → (k ≡ k₀ → ⊥) → (j : ℕ) → j ≡ k₀ → (stageAt served j ≡ stageIdle → ⊥) → (stageAt served k ≡ stageIdle → ⊥) → handleAt served k ≡ handleAt served j → ⊥
+      clear k h n j e p q r =
+          fresh k h n
+          (λ z. q (other k 0 (omega arith) n ∙ z))
+          (λ z. p (ap (λ (x : ℕ). stageAt served x) e ∙ here 0 (omega arith) ∙ z))
+          (sym (other k 1 (omega arith) n) ∙ r ∙ ap (λ (x : ℕ). handleAt served x) e ∙ here 1 (omega arith))
+
+      apart : Apart served
+      apart j k l h p q r = go (eqb j k₀) refl (eqb k k₀) refl
         where
-          go : (x : Bool) → eqb j k₀ ≡ x → (y : Bool) → eqb k k₀ ≡ y → handleAt served k ≡ 0
-          go true x true y = absurd (omega (arith, eqb-true j k₀ x, eqb-true k k₀ y))
-          go true x false y =
-              let n = eqb-false k k₀ y in
-              let o = other k 1 (omega arith) n in
-              let p = ap (λ (z : ℕ). handleAt served z) (eqb-true j k₀ x) ∙ here 1 (omega arith) in
-              sym q ∙ p ∙ fresh k h n (sym o ∙ sym q ∙ p)
-          go false x true y =
-              let n = eqb-false j k₀ x in
-              let o = other j 1 (omega arith) n in
-              let p = ap (λ (z : ℕ). handleAt served z) (eqb-true k k₀ y) ∙ here 1 (omega arith) in
-              p ∙ fresh j (omega arith) n (sym o ∙ q ∙ p)
+          go : (x : Bool) → eqb j k₀ ≡ x → (y : Bool) → eqb k k₀ ≡ y → ⊥
+          go true x true y = omega (arith, eqb-true j k₀ x, eqb-true k k₀ y)
+          go true x false y = clear k h (eqb-false k k₀ y) j (eqb-true j k₀ x) p q (sym r)
+          go false x true y = clear j (omega arith) (eqb-false j k₀ x) k (eqb-true k k₀ y) q p r
           go false x false y =
-              let o = other j 1 (omega arith) (eqb-false j k₀ x) in
-              let p = other k 1 (omega arith) (eqb-false k k₀ y) in
-              p ∙ b .apart j k l h (sym o ∙ q ∙ p)
+              let m = eqb-false j k₀ x in
+              let n = eqb-false k k₀ y in
+              b .apart j k l h
+              (λ z. p (other j 0 (omega arith) m ∙ z))
+              (λ z. q (other k 0 (omega arith) n ∙ z))
+              (sym (other j 1 (omega arith) m) ∙ r ∙ other k 1 (omega arith) n)
 
 -- A channel closed or made ready.
-module _ (s : List ℕ) (last c on : ℕ) (size : length s ≡ 191) (b : Base s last) (cb : c < 4) (small : on ≤ 1) where
+module _ (s : List ℕ) (last c on : ℕ) (size : length s ≡ stateWords) (b : Base s last) (cb : c < channelCount) (small : on ≤ 1) where
   switched : List ℕ
   switched = withChannel s c on
 
-  gone : (k i : ℕ) → i < 3 → k < 16 → k / 4 ≡ c → getD switched (4 + i + k * 3) 0 ≡ 0
+  gone : (k i : ℕ) → i < serviceWords → k < placeCount → k / serviceCount ≡ c → getD switched (firstStageWord + i + k * serviceWords) 0 ≡ 0
   unfolding switched
-  gone k i h g q = ap (λ (j : ℕ). getD (withChannel s c on) j 0) (omega arith) ∙ channel-zero s c on size cb (i + k * 3 - c * 12) (omega arith)
+  gone k i h g q = ap (λ (j : ℕ). getD (withChannel s c on) j 0) (omega arith) ∙ channel-zero s c on size cb (i + k * serviceWords - c * channelWords) (omega arith)
 
-  kept : (k i : ℕ) → i < 3 → k < 16 → (k / 4 ≡ c → ⊥) → getD switched (4 + i + k * 3) 0 ≡ getD s (4 + i + k * 3) 0
+  kept : (k i : ℕ) → i < serviceWords → k < placeCount → (k / serviceCount ≡ c → ⊥) → getD switched (firstStageWord + i + k * serviceWords) 0 ≡ getD s (firstStageWord + i + k * serviceWords) 0
   unfolding switched
-  kept k i h g n = channel-frame s c on (4 + i + k * 3) (λ q. omega arith) (λ p q. n (omega arith))
+  kept k i h g n = channel-frame s c on (firstStageWord + i + k * serviceWords) (λ q. omega arith) (λ p q. n (omega arith))
 
-  ready-other : (x : ℕ) → x < 4 → (x ≡ c → ⊥) → readyAt switched x ≡ readyAt s x
+  ready-other : (x : ℕ) → x < channelCount → (x ≡ c → ⊥) → readyAt switched x ≡ readyAt s x
   unfolding switched
   ready-other x h n = channel-frame s c on x n (λ p q. omega arith)
 
@@ -189,35 +205,41 @@ module _ (s : List ℕ) (last c on : ℕ) (size : length s ≡ 191) (b : Base s 
   base-channel =
       base-make s switched last b (λ j lo hi. channel-frame s c on j (λ q. omega arith) (λ p q. omega arith)) ready services apart
     where
-      ready : (x : ℕ) → x < 4 → readyAt switched x ≤ 1
+      ready : (x : ℕ) → x < channelCount → readyAt switched x ≤ 1
       ready x h = go (eqb x c) refl
         where
           go : (y : Bool) → eqb x c ≡ y → readyAt switched x ≤ 1
           go true z = let q = eqb-true x c z in rw (q, channel-ready s c on size cb) small
           go false z = rw (ready-other x h (eqb-false x c z)) (b .ready x h)
 
-      services : (k : ℕ) → k < 16 → serviceSound (stageAt switched k) (handleAt switched k) (minorAt switched k) (readyAt switched (k / 4)) last ≡ true
-      services k h = go (eqb (k / 4) c) refl
+      services : (k : ℕ) → k < placeCount → serviceSound (stageAt switched k) (handleAt switched k) (minorAt switched k) (readyAt switched (k / serviceCount)) last ≡ true
+      services k h = go (eqb (k / serviceCount) c) refl
         where
-          go : (y : Bool) → eqb (k / 4) c ≡ y → serviceSound (stageAt switched k) (handleAt switched k) (minorAt switched k) (readyAt switched (k / 4)) last ≡ true
+          go : (y : Bool) → eqb (k / serviceCount) c ≡ y → serviceSound (stageAt switched k) (handleAt switched k) (minorAt switched k) (readyAt switched (k / serviceCount)) last ≡ true
           go true z =
-              let q = eqb-true (k / 4) c z in
-              rw (gone k 0 (omega arith) h q, gone k 1 (omega arith) h q, gone k 2 (omega arith) h q) (service-idle _ _)
+              let q = eqb-true (k / serviceCount) c z in
+              service-idle _ _ _ _ _ (gone k 0 (omega arith) h q)
           go false z =
-              let n = eqb-false (k / 4) c z in
-              rw (kept k 0 (omega arith) h n, kept k 1 (omega arith) h n, kept k 2 (omega arith) h n, ready-other (k / 4) (omega arith) n)
+              let n = eqb-false (k / serviceCount) c z in
+              rw (kept k 0 (omega arith) h n, kept k 1 (omega arith) h n, kept k 2 (omega arith) h n, ready-other (k / serviceCount) (omega arith) n)
               (b .services k h)
 
-      apart : (j k : ℕ) → j < k → k < 16 → handleAt switched j ≡ handleAt switched k → handleAt switched k ≡ 0
-      apart j k l h q = go (eqb (j / 4) c) refl (eqb (k / 4) c) refl
+      apart : Apart switched
+      apart j k l h p q r = go (eqb (j / serviceCount) c) refl (eqb (k / serviceCount) c) refl
         where
-          go : (x : Bool) → eqb (j / 4) c ≡ x → (y : Bool) → eqb (k / 4) c ≡ y → handleAt switched k ≡ 0
-          go x p true z = gone k 1 (omega arith) h (eqb-true (k / 4) c z)
-          go true p false z = sym q ∙ gone j 1 (omega arith) (omega arith) (eqb-true (j / 4) c p)
-          go false p false z =
-              let o = kept j 1 (omega arith) (omega arith) (eqb-false (j / 4) c p) in
-              let e = kept k 1 (omega arith) h (eqb-false (k / 4) c z) in
-              e ∙ b .apart j k l h (sym o ∙ q ∙ e)
+          g : j < placeCount
+          g = omega arith
+
+          go : (x : Bool) → eqb (j / serviceCount) c ≡ x → (y : Bool) → eqb (k / serviceCount) c ≡ y → ⊥
+          go x e true z = q (gone k 0 (omega arith) h (eqb-true (k / serviceCount) c z))
+          go true e false z = p (gone j 0 (omega arith) g (eqb-true (j / serviceCount) c e))
+          go false e false z =
+              let m = eqb-false (j / serviceCount) c e in
+              let n = eqb-false (k / serviceCount) c z in
+              b .apart j k l h
+              (λ y. p (kept j 0 (omega arith) g m ∙ y))
+              (λ y. q (kept k 0 (omega arith) h n ∙ y))
+              (sym (kept j 1 (omega arith) g m) ∙ r ∙ kept k 1 (omega arith) h n)
 
 -- a block keeps its rules with another flag, if it has no permanent pages or the flag is 1
 flag-keeps : (x : Block) (floor flag : ℕ) → flag ≤ 1 → blockKeeps x floor ≡ true → ((x .permanent ≡ 0 → ⊥) → flag ≡ 1) → blockKeeps (flagged flag x) floor ≡ true
@@ -242,7 +264,7 @@ flag-keeps x floor flag small old perm =
     decide false z e = eq-eqb flag 1 (perm (eqb-false _ 0 z))
 
 -- A block's flag changed.
-module _ (s : List ℕ) (i flag : ℕ) (size : length s ≡ 191) (few : blocksOf s ≤ 16) (ib : i < blocksOf s) where
+module _ (s : List ℕ) (i flag : ℕ) (size : length s ≡ stateWords) (few : blocksOf s ≤ mostBlocks) (ib : i < blocksOf s) where
   raised : List ℕ
   raised = withConfigured s i flag
 
@@ -254,52 +276,36 @@ module _ (s : List ℕ) (i flag : ℕ) (size : length s ≡ 191) (few : blocksOf
       go true z = let q = eqb-true k i z in rw (q, flag-here s i flag size (omega arith)) (f q)
       go false z = let n = eqb-false k i z in rw (flag-other s k i flag n) (g n)
 
-  end-flag : (k : ℕ) → endBefore raised 53 k ≡ endBefore s 53 k
+  end-flag : (k : ℕ) → endBefore raised firstBlockWord k ≡ endBefore s firstBlockWord k
   unfolding endBefore
   end-flag zero = refl
   end-flag (suc k) =
       by-flag (λ x. endOf x ≡ endOf (blockAt s k)) k (λ q. unfold flagged in rw q) (λ n. refl)
 
   pub count-flag : blocksOf (withConfigured s i flag) ≡ blocksOf s
-  count-flag = configured-frame s i flag 52 (λ p q. omega arith)
-
-  pub named-flag : (addr sz : ℕ) → namedBlock (withConfigured s i flag) addr sz ≡ namedBlock s addr sz
-  unfolding raised
-  named-flag addr sz =
-      rw count-flag
-      (named-same s raised addr sz (blocksOf s)
-      (λ k h. by-flag (λ x. names addr sz x ≡ names addr sz (blockAt s k)) k (λ q. unfold flagged names in rw q) (λ n. refl)))
+  count-flag = configured-frame s i flag blockCountWord (λ p q. omega arith)
 
   pub base-configured : (last : ℕ) → flag ≤ 1 → ((blockAt s i .permanent ≡ 0 → ⊥) → flag ≡ 1) → Base s last → Base (withConfigured s i flag) last
   unfolding raised
   base-configured last small permanent b =
       let e = configured-frame s i flag in
+      let f = low-same s (withConfigured s i flag) (λ j lo hi. e j (λ p q. omega arith)) in
       record {
         few = omega (arith, count-flag, few);
         blocks = λ k h. rw (end-flag k) (keeps k (omega (arith, count-flag)));
-        ready = λ c h. rw (e c (λ p q. omega arith)) (b .ready c h);
-        services =
-            λ k h.
-            rw (
-              e (4 + k * 3) (λ p q. omega arith),
-              e (5 + k * 3) (λ p q. omega arith),
-              e (6 + k * 3) (λ p q. omega arith),
-              e (k / 4) (λ p q. omega arith),
-            )
-            (b .services k h);
-        apart =
-            λ j k l h.
-            rw (e (5 + j * 3) (λ p q. omega arith), e (5 + k * 3) (λ p q. omega arith)) (b .apart j k l h);
+        ready = ready-kept s (withConfigured s i flag) last b f;
+        services = services-kept s (withConfigured s i flag) last b f;
+        apart = apart-kept s (withConfigured s i flag) last b f;
       }
     where
-      keeps : (k : ℕ) → k < blocksOf s → blockKeeps (blockAt raised k) (endBefore s 53 k) ≡ true
-      keeps k h = by-flag (λ x. blockKeeps x (endBefore s 53 k) ≡ true) k (λ q. rw q (flag-keeps (blockAt s i) (endBefore s 53 i) flag small (b .blocks i ib) permanent)) (λ n. b .blocks k h)
+      keeps : (k : ℕ) → k < blocksOf s → blockKeeps (blockAt raised k) (endBefore s firstBlockWord k) ≡ true
+      keeps k h = by-flag (λ x. blockKeeps x (endBefore s firstBlockWord k) ≡ true) k (λ q. rw q (flag-keeps (blockAt s i) (endBefore s firstBlockWord i) flag small (b .blocks i ib) permanent)) (λ n. b .blocks k h)
 
 -- A removal stored.
 pub base-removal : (s : List ℕ) (last : ℕ) (m : Removal) → Base s last → Base (withRemoval s m) last
 base-removal s last m b = base-same s (withRemoval s m) last (λ j lo hi. removal-frame s m j (omega arith)) b
 
-pub removes-made : (s : List ℕ) (last : ℕ) (m : Removal) → length s ≡ 191 → blocksOf s ≤ 16 → Arrays m → RemovalFacts s last m → Removes (withRemoval s m) last
+pub removes-made : (s : List ℕ) (last : ℕ) (m : Removal) → length s ≡ stateWords → blocksOf s ≤ mostBlocks → Arrays m → RemovalFacts s last m → Removes (withRemoval s m) last
 removes-made s last m n few a f o =
     record {
       one = head-back s m n a 0 (omega arith);
@@ -329,7 +335,7 @@ pub removes-none : (s : List ℕ) (last : ℕ) → outstandingOf s ≡ 0 → Rem
 removes-none s last e o = absurd (clash _ (not-true _ o) (eq-eqb _ 0 e))
 
 -- An entry counted.
-pub sound-counted : (s : List ℕ) (last held : ℕ) → length s ≡ 191 → Base s last → Removes s last → last ≤ 4294967295 → held ≤ 64 → held ≤ last → sound (withCounts s last held) ≡ true
+pub sound-counted : (s : List ℕ) (last held : ℕ) → length s ≡ stateWords → Base s last → Removes s last → last ≤ highestNumber → held ≤ mostHeld → held ≤ last → sound (withCounts s last held) ≡ true
 sound-counted s last held n b r p q l =
     let t : List ℕ = withCounts s last held in
     let e = counts-frame s last held in
@@ -342,5 +348,5 @@ sound-counted s last held n b r p q l =
       counts = record { lasts = rw x p; helds = rw y q; numbered = rw (x, y) l };
     })
   where
-    base-make′ : ((j : ℕ) → (133 ≤ j → j < 135 → ⊥) → getD (withCounts s last held) j 0 ≡ getD s j 0) → Base (withCounts s last held) last
+    base-make′ : ((j : ℕ) → (lastWord ≤ j → j < outstandingWord → ⊥) → getD (withCounts s last held) j 0 ≡ getD s j 0) → Base (withCounts s last held) last
     base-make′ e = base-same s (withCounts s last held) last (λ j lo hi. e j (λ p q. omega arith)) b

@@ -11,7 +11,7 @@ use lib.Dec.{ltb}
 use borrow.Author.Tests.{ltb-true, ltb-false}
 use Rattle.model.specs.Choice.{tabulate}
 use Rattle.model.specs.declared.Removal.{Removal}
-use Rattle.model.specs.Layout.{isSet, wordOf, removalOf, removalHead, withChannel, withService, withConfigured, withCounts, withRemoval, withoutRemoval, outstandingOf, cancelledOf}
+use Rattle.model.specs.Layout.{isSet, wordOf, removalOf, removalHead, withChannel, withService, withConfigured, withCounts, withRemoval, withoutRemoval, outstandingOf, cancelledOf, blockWords, cancelledWord, channelCount, channelWords, collectedWord, configuredPlace, countWord, firstAddressWord, firstBlockWord, firstResultWord, firstSizeWord, firstStageWord, heldWord, lastWord, mostRecords, outstandingWord, placeCount, positionWord, removalChannelWord, removalHandleWord, removalWords, requestWord, serviceWords, stateWords, headWords}
 use Rattle.model.proofs.Choice.{tabulate-at, tabulate-length, tabulate-same}
 
 -- A run of stores: before it, after it, outside it, inside it.
@@ -50,133 +50,133 @@ Agree s t lo hi = (j : ℕ) → lo ≤ j → j < hi → getD t j 0 ≡ getD s j 
 abbrev pub Frame : List ℕ → List ℕ → ℕ → ℕ → Type 0
 Frame s t at n = (j : ℕ) → (at ≤ j → j < at + n → ⊥) → getD t j 0 ≡ getD s j 0
 
-pub service-frame : (s : List ℕ) (k stage handle minor : ℕ) → Frame s (withService s k stage handle minor) (4 + k * 3) 3
+pub service-frame : (s : List ℕ) (k stage handle minor : ℕ) → Frame s (withService s k stage handle minor) (firstStageWord + k * serviceWords) serviceWords
 unfolding withService
-service-frame s k stage handle minor j n = sets-else s (stage ∷ handle ∷ minor ∷ []) (4 + k * 3) j n
+service-frame s k stage handle minor j n = sets-else s (stage ∷ handle ∷ minor ∷ []) (firstStageWord + k * serviceWords) j n
 
 pub service-length : (s : List ℕ) (k stage handle minor : ℕ) → length (withService s k stage handle minor) ≡ length s
 unfolding withService
-service-length s k stage handle minor = length-sets s (4 + k * 3) (stage ∷ handle ∷ minor ∷ [])
+service-length s k stage handle minor = length-sets s (firstStageWord + k * serviceWords) (stage ∷ handle ∷ minor ∷ [])
 
-pub configured-frame : (s : List ℕ) (i flag : ℕ) → Frame s (withConfigured s i flag) (53 + i * 5 + 4) 1
+pub configured-frame : (s : List ℕ) (i flag : ℕ) → Frame s (withConfigured s i flag) (firstBlockWord + i * blockWords + configuredPlace) 1
 unfolding withConfigured
-configured-frame s i flag j n = getD-set-other s (53 + i * 5 + 4) j flag 0 (λ q. n (omega arith) (omega arith))
+configured-frame s i flag j n = getD-set-other s (firstBlockWord + i * blockWords + configuredPlace) j flag 0 (λ q. n (omega arith) (omega arith))
 
 pub configured-length : (s : List ℕ) (i flag : ℕ) → length (withConfigured s i flag) ≡ length s
 unfolding withConfigured
-configured-length s i flag = length-set s (53 + i * 5 + 4) flag
+configured-length s i flag = length-set s (firstBlockWord + i * blockWords + configuredPlace) flag
 
-pub counts-frame : (s : List ℕ) (last held : ℕ) → Frame s (withCounts s last held) 133 2
+pub counts-frame : (s : List ℕ) (last held : ℕ) → Frame s (withCounts s last held) lastWord 2
 unfolding withCounts
-counts-frame s last held j n = sets-else s (last ∷ held ∷ []) 133 j n
+counts-frame s last held j n = sets-else s (last ∷ held ∷ []) lastWord j n
 
 pub counts-length : (s : List ℕ) (last held : ℕ) → length (withCounts s last held) ≡ length s
 unfolding withCounts
-counts-length s last held = length-sets s 133 (last ∷ held ∷ [])
+counts-length s last held = length-sets s lastWord (last ∷ held ∷ [])
 
 -- a channel's own word, and its services' twelve
-pub channel-frame : (s : List ℕ) (c ready j : ℕ) → (j ≡ c → ⊥) → (4 + c * 12 ≤ j → j < 16 + c * 12 → ⊥) → getD (withChannel s c ready) j 0 ≡ getD s j 0
+pub channel-frame : (s : List ℕ) (c ready j : ℕ) → (j ≡ c → ⊥) → (firstStageWord + c * channelWords ≤ j → j < firstStageWord + channelWords + c * channelWords → ⊥) → getD (withChannel s c ready) j 0 ≡ getD s j 0
 unfolding withChannel
 channel-frame s c ready j n m =
-    sets-else (set s c ready) (replicate 12 0) (4 + c * 12) j (λ a b. m a (omega arith))
+    sets-else (set s c ready) (replicate channelWords 0) (firstStageWord + c * channelWords) j (λ a b. m a (omega arith))
     ∙ getD-set-other s c j ready 0 n
 
 pub channel-length : (s : List ℕ) (c ready : ℕ) → length (withChannel s c ready) ≡ length s
 unfolding withChannel
-channel-length s c ready = length-sets (set s c ready) (4 + c * 12) (replicate 12 0) ∙ length-set s c ready
+channel-length s c ready = length-sets (set s c ready) (firstStageWord + c * channelWords) (replicate channelWords 0) ∙ length-set s c ready
 
 -- an outstanding removal's words
 module _ (s : List ℕ) (m : Removal) where
   r1 : List ℕ
-  r1 = sets s 135 (removalHead m)
+  r1 = sets s outstandingWord (removalHead m)
 
   r2 : List ℕ
-  r2 = sets r1 143 (m .address)
+  r2 = sets r1 firstAddressWord (m .address)
 
   r3 : List ℕ
-  r3 = sets r2 159 (m .size)
+  r3 = sets r2 firstSizeWord (m .size)
 
-  pub removal-frame : (j : ℕ) → j < 135 → getD (withRemoval s m) j 0 ≡ getD s j 0
+  pub removal-frame : (j : ℕ) → j < outstandingWord → getD (withRemoval s m) j 0 ≡ getD s j 0
   unfolding withRemoval r1 r2 r3
   removal-frame j h =
-      sets-below r3 (m .result) 175 j (omega arith)
-      ∙ sets-below r2 (m .size) 159 j (omega arith)
-      ∙ sets-below r1 (m .address) 143 j (omega arith)
-      ∙ sets-below s (removalHead m) 135 j (omega arith)
+      sets-below r3 (m .result) firstResultWord j (omega arith)
+      ∙ sets-below r2 (m .size) firstSizeWord j (omega arith)
+      ∙ sets-below r1 (m .address) firstAddressWord j (omega arith)
+      ∙ sets-below s (removalHead m) outstandingWord j (omega arith)
 
   pub removal-length : length (withRemoval s m) ≡ length s
   unfolding withRemoval r1 r2 r3
   removal-length =
-      length-sets r3 175 (m .result)
-      ∙ length-sets r2 159 (m .size)
-      ∙ length-sets r1 143 (m .address)
-      ∙ length-sets s 135 (removalHead m)
+      length-sets r3 firstResultWord (m .result)
+      ∙ length-sets r2 firstSizeWord (m .size)
+      ∙ length-sets r1 firstAddressWord (m .address)
+      ∙ length-sets s outstandingWord (removalHead m)
 
 -- its arrays have sixteen elements
 pub record Arrays (m : Removal) : Type 0 where
-  pub addresses : length (m .address) ≡ 16
-  pub sizes : length (m .size) ≡ 16
-  pub results : length (m .result) ≡ 16
+  pub addresses : length (m .address) ≡ mostRecords
+  pub sizes : length (m .size) ≡ mostRecords
+  pub results : length (m .result) ≡ mostRecords
 
 flag-word : (b : Bool) → isSet (wordOf b) ≡ b
 flag-word true = refl
 flag-word false = refl
 
 -- sixteen words that stand in the list are those that are loaded
-sixteen : (l v : List ℕ) (at : ℕ) → length v ≡ 16 → ((i : ℕ) → i < 16 → getD l (at + i) 0 ≡ getD v i 0) → tabulate (λ i. getD l (at + i) 0) 16 ≡ v
+sixteen : (l v : List ℕ) (at : ℕ) → length v ≡ mostRecords → ((i : ℕ) → i < mostRecords → getD l (at + i) 0 ≡ getD v i 0) → tabulate (λ i. getD l (at + i) 0) mostRecords ≡ v
 sixteen l v at n h =
-    ext-getD 0 (tabulate (λ i. getD l (at + i) 0) 16) v (tabulate-length _ 16 ∙ sym n)
+    ext-getD 0 (tabulate (λ i. getD l (at + i) 0) mostRecords) v (tabulate-length _ mostRecords ∙ sym n)
     (λ i k.
-    let k16 : i < 16 = omega (arith, tabulate-length (λ (i : ℕ). getD l (at + i) 0) 16) in
-    tabulate-at (λ (i : ℕ). getD l (at + i) 0) 16 i 0 k16 ∙ h i k16)
+    let k16 : i < mostRecords = omega (arith, tabulate-length (λ (i : ℕ). getD l (at + i) 0) mostRecords) in
+    tabulate-at (λ (i : ℕ). getD l (at + i) 0) mostRecords i 0 k16 ∙ h i k16)
 
 -- what is stored is what is loaded
-module _ (s : List ℕ) (m : Removal) (n : length s ≡ 191) (a : Arrays m) where
-  q1 : length (r1 s m) ≡ 191
+module _ (s : List ℕ) (m : Removal) (n : length s ≡ stateWords) (a : Arrays m) where
+  q1 : length (r1 s m) ≡ stateWords
   unfolding r1
-  q1 = length-sets s 135 (removalHead m) ∙ n
+  q1 = length-sets s outstandingWord (removalHead m) ∙ n
 
-  q2 : length (r2 s m) ≡ 191
+  q2 : length (r2 s m) ≡ stateWords
   unfolding r2
-  q2 = length-sets (r1 s m) 143 (m .address) ∙ q1
+  q2 = length-sets (r1 s m) firstAddressWord (m .address) ∙ q1
 
-  q3 : length (r3 s m) ≡ 191
+  q3 : length (r3 s m) ≡ stateWords
   unfolding r3
-  q3 = length-sets (r2 s m) 159 (m .size) ∙ q2
+  q3 = length-sets (r2 s m) firstSizeWord (m .size) ∙ q2
 
-  pub head-back : (i : ℕ) → i < 8 → getD (withRemoval s m) (135 + i) 0 ≡ getD (removalHead m) i 0
+  pub head-back : (i : ℕ) → i < headWords → getD (withRemoval s m) (outstandingWord + i) 0 ≡ getD (removalHead m) i 0
   unfolding withRemoval r1 r2 r3
   head-back i h =
-      sets-below (r3 s m) (m .result) 175 (135 + i) (omega arith)
-      ∙ sets-below (r2 s m) (m .size) 159 (135 + i) (omega arith)
-      ∙ sets-below (r1 s m) (m .address) 143 (135 + i) (omega arith)
-      ∙ sets-at s (removalHead m) 135 i h (omega arith)
+      sets-below (r3 s m) (m .result) firstResultWord (outstandingWord + i) (omega arith)
+      ∙ sets-below (r2 s m) (m .size) firstSizeWord (outstandingWord + i) (omega arith)
+      ∙ sets-below (r1 s m) (m .address) firstAddressWord (outstandingWord + i) (omega arith)
+      ∙ sets-at s (removalHead m) outstandingWord i h (omega arith)
 
-  address-back : (i : ℕ) → i < 16 → getD (withRemoval s m) (143 + i) 0 ≡ getD (m .address) i 0
+  address-back : (i : ℕ) → i < mostRecords → getD (withRemoval s m) (firstAddressWord + i) 0 ≡ getD (m .address) i 0
   unfolding withRemoval r2 r3 r1
   address-back i h =
-      sets-below (r3 s m) (m .result) 175 (143 + i) (omega arith)
-      ∙ sets-below (r2 s m) (m .size) 159 (143 + i) (omega arith)
-      ∙ sets-at (r1 s m) (m .address) 143 i (omega (arith, a .addresses)) (omega (arith, a .addresses, q1))
+      sets-below (r3 s m) (m .result) firstResultWord (firstAddressWord + i) (omega arith)
+      ∙ sets-below (r2 s m) (m .size) firstSizeWord (firstAddressWord + i) (omega arith)
+      ∙ sets-at (r1 s m) (m .address) firstAddressWord i (omega (arith, a .addresses)) (omega (arith, a .addresses, q1))
 
-  size-back : (i : ℕ) → i < 16 → getD (withRemoval s m) (159 + i) 0 ≡ getD (m .size) i 0
+  size-back : (i : ℕ) → i < mostRecords → getD (withRemoval s m) (firstSizeWord + i) 0 ≡ getD (m .size) i 0
   unfolding withRemoval r2 r3 r1
   size-back i h =
-      sets-below (r3 s m) (m .result) 175 (159 + i) (omega arith)
-      ∙ sets-at (r2 s m) (m .size) 159 i (omega (arith, a .sizes)) (omega (arith, a .sizes, q2))
+      sets-below (r3 s m) (m .result) firstResultWord (firstSizeWord + i) (omega arith)
+      ∙ sets-at (r2 s m) (m .size) firstSizeWord i (omega (arith, a .sizes)) (omega (arith, a .sizes, q2))
 
-  result-back : (i : ℕ) → i < 16 → getD (withRemoval s m) (175 + i) 0 ≡ getD (m .result) i 0
+  result-back : (i : ℕ) → i < mostRecords → getD (withRemoval s m) (firstResultWord + i) 0 ≡ getD (m .result) i 0
   unfolding withRemoval r2 r3 r1
   result-back i h =
-      sets-at (r3 s m) (m .result) 175 i (omega (arith, a .results)) (omega (arith, a .results, q3))
+      sets-at (r3 s m) (m .result) firstResultWord i (omega (arith, a .results)) (omega (arith, a .results, q3))
 
   pub removal-back : removalOf (withRemoval s m) ≡ m
   unfolding removalOf
   removal-back =
       rw (
-        sixteen (withRemoval s m) (m .address) 143 (a .addresses) address-back,
-        sixteen (withRemoval s m) (m .size) 159 (a .sizes) size-back,
-        sixteen (withRemoval s m) (m .result) 175 (a .results) result-back,
+        sixteen (withRemoval s m) (m .address) firstAddressWord (a .addresses) address-back,
+        sixteen (withRemoval s m) (m .size) firstSizeWord (a .sizes) size-back,
+        sixteen (withRemoval s m) (m .result) firstResultWord (a .results) result-back,
         head-back 1 (omega arith),
         head-back 2 (omega arith),
         head-back 3 (omega arith),
@@ -191,22 +191,22 @@ module _ (s : List ℕ) (m : Removal) (n : length s ≡ 191) (a : Arrays m) wher
 pub loaded-arrays : (s : List ℕ) → Arrays (removalOf s)
 unfolding removalOf
 loaded-arrays s = record {
-  addresses = tabulate-length (λ (i : ℕ). getD s (143 + i) 0) 16;
-  sizes = tabulate-length (λ (i : ℕ). getD s (159 + i) 0) 16;
-  results = tabulate-length (λ (i : ℕ). getD s (175 + i) 0) 16;
+  addresses = tabulate-length (λ (i : ℕ). getD s (firstAddressWord + i) 0) mostRecords;
+  sizes = tabulate-length (λ (i : ℕ). getD s (firstSizeWord + i) 0) mostRecords;
+  results = tabulate-length (λ (i : ℕ). getD s (firstResultWord + i) 0) mostRecords;
 }
 
 -- storing what was loaded changes nothing
-module _ (s : List ℕ) (n : length s ≡ 191) (one : outstandingOf s ≡ 1) (flag : cancelledOf s ≤ 1) where
+module _ (s : List ℕ) (n : length s ≡ stateWords) (one : outstandingOf s ≡ 1) (flag : cancelledOf s ≤ 1) where
   word-flag : (x : ℕ) → x ≤ 1 → wordOf (isSet x) ≡ x
   word-flag zero h = refl
   word-flag (suc zero) h = refl
   word-flag (suc (suc x)) h = absurd (omega arith)
 
-  head-same : (i : ℕ) → i < 8 → getD (removalHead (removalOf s)) i 0 ≡ getD s (135 + i) 0
+  head-same : (i : ℕ) → i < headWords → getD (removalHead (removalOf s)) i 0 ≡ getD s (outstandingWord + i) 0
   unfolding removalOf
   head-same zero h = sym one
-  head-same (suc zero) h = word-flag (getD s 136 0) flag
+  head-same (suc zero) h = word-flag (getD s cancelledWord 0) flag
   head-same (suc (suc zero)) h = refl
   head-same (suc (suc (suc zero))) h = refl
   head-same (suc (suc (suc (suc zero)))) h = refl
@@ -216,13 +216,13 @@ module _ (s : List ℕ) (n : length s ≡ 191) (one : outstandingOf s ≡ 1) (fl
   head-same (suc (suc (suc (suc (suc (suc (suc (suc i)))))))) h = absurd (omega arith)
 
   -- word i of sixteen from at on
-  sixteen-same : (at i : ℕ) → i < 16 → getD (tabulate (λ (i : ℕ). getD s (at + i) 0) 16) i 0 ≡ getD s (at + i) 0
-  sixteen-same at i h = tabulate-at (λ (i : ℕ). getD s (at + i) 0) 16 i 0 h
+  sixteen-same : (at i : ℕ) → i < mostRecords → getD (tabulate (λ (i : ℕ). getD s (at + i) 0) mostRecords) i 0 ≡ getD s (at + i) 0
+  sixteen-same at i h = tabulate-at (λ (i : ℕ). getD s (at + i) 0) mostRecords i 0 h
 
   pub removal-again : withRemoval s (removalOf s) ≡ s
   removal-again =
       ext-getD 0 (withRemoval s (removalOf s)) s (removal-length s (removalOf s))
-      (λ j h. go j (omega (arith, removal-length s (removalOf s))) (ltb j 135) refl (ltb j 143) refl (ltb j 159) refl (ltb j 175) refl)
+      (λ j h. go j (omega (arith, removal-length s (removalOf s))) (ltb j outstandingWord) refl (ltb j firstAddressWord) refl (ltb j firstSizeWord) refl (ltb j firstResultWord) refl)
     where
       a : Arrays (removalOf s)
       a = loaded-arrays s
@@ -230,86 +230,86 @@ module _ (s : List ℕ) (n : length s ≡ 191) (one : outstandingOf s ≡ 1) (fl
       at : (k i j : ℕ) → k + i ≡ j → getD (withRemoval s (removalOf s)) (k + i) 0 ≡ getD s (k + i) 0 → getD (withRemoval s (removalOf s)) j 0 ≡ getD s j 0
       at k i j e p = rw e at p
 
-      go : (j : ℕ) → j < 191 → (p : Bool) → ltb j 135 ≡ p → (q : Bool) → ltb j 143 ≡ q → (r : Bool) → ltb j 159 ≡ r → (t : Bool) → ltb j 175 ≡ t → getD (withRemoval s (removalOf s)) j 0 ≡ getD s j 0
-      go j h true p q q′ r r′ t t′ = removal-frame s (removalOf s) j (ltb-true j 135 p)
+      go : (j : ℕ) → j < stateWords → (p : Bool) → ltb j outstandingWord ≡ p → (q : Bool) → ltb j firstAddressWord ≡ q → (r : Bool) → ltb j firstSizeWord ≡ r → (t : Bool) → ltb j firstResultWord ≡ t → getD (withRemoval s (removalOf s)) j 0 ≡ getD s j 0
+      go j h true p q q′ r r′ t t′ = removal-frame s (removalOf s) j (ltb-true j outstandingWord p)
       go j h false p true q′ r r′ t t′ =
-          let lo = ltb-false j 135 p in
-          let hi = ltb-true j 143 q′ in
-          at 135 (j - 135) j (omega arith)
-          (head-back s (removalOf s) n a (j - 135) (omega arith) ∙ head-same (j - 135) (omega arith))
+          let lo = ltb-false j outstandingWord p in
+          let hi = ltb-true j firstAddressWord q′ in
+          at outstandingWord (j - outstandingWord) j (omega arith)
+          (head-back s (removalOf s) n a (j - outstandingWord) (omega arith) ∙ head-same (j - outstandingWord) (omega arith))
       go j h false p false q′ true r′ t t′ =
-          let lo = ltb-false j 143 q′ in
-          let hi = ltb-true j 159 r′ in
-          at 143 (j - 143) j (omega arith)
-          (address-back s (removalOf s) n a (j - 143) (omega arith) ∙ unfold removalOf in (sixteen-same 143 (j - 143) (omega arith)))
+          let lo = ltb-false j firstAddressWord q′ in
+          let hi = ltb-true j firstSizeWord r′ in
+          at firstAddressWord (j - firstAddressWord) j (omega arith)
+          (address-back s (removalOf s) n a (j - firstAddressWord) (omega arith) ∙ unfold removalOf in (sixteen-same firstAddressWord (j - firstAddressWord) (omega arith)))
       go j h false p false q′ false r′ true t′ =
-          let lo = ltb-false j 159 r′ in
-          let hi = ltb-true j 175 t′ in
-          at 159 (j - 159) j (omega arith)
-          (size-back s (removalOf s) n a (j - 159) (omega arith) ∙ unfold removalOf in (sixteen-same 159 (j - 159) (omega arith)))
+          let lo = ltb-false j firstSizeWord r′ in
+          let hi = ltb-true j firstResultWord t′ in
+          at firstSizeWord (j - firstSizeWord) j (omega arith)
+          (size-back s (removalOf s) n a (j - firstSizeWord) (omega arith) ∙ unfold removalOf in (sixteen-same firstSizeWord (j - firstSizeWord) (omega arith)))
       go j h false p false q′ false r′ false t′ =
-          let lo = ltb-false j 175 t′ in
-          at 175 (j - 175) j (omega arith)
-          (result-back s (removalOf s) n a (j - 175) (omega arith) ∙ unfold removalOf in (sixteen-same 175 (j - 175) (omega arith)))
+          let lo = ltb-false j firstResultWord t′ in
+          at firstResultWord (j - firstResultWord) j (omega arith)
+          (result-back s (removalOf s) n a (j - firstResultWord) (omega arith) ∙ unfold removalOf in (sixteen-same firstResultWord (j - firstResultWord) (omega arith)))
 
 -- equal words are the same removal
-pub removal-same : (s t : List ℕ) → Agree s t 135 191 → removalOf t ≡ removalOf s
+pub removal-same : (s t : List ℕ) → Agree s t outstandingWord stateWords → removalOf t ≡ removalOf s
 unfolding removalOf
 removal-same s t a =
     rw (
-      a 136 (omega arith) (omega arith),
-      a 137 (omega arith) (omega arith),
-      a 138 (omega arith) (omega arith),
-      a 139 (omega arith) (omega arith),
-      a 140 (omega arith) (omega arith),
-      a 141 (omega arith) (omega arith),
-      a 142 (omega arith) (omega arith),
-      tabulate-same (λ i. getD s (143 + i) 0) (λ i. getD t (143 + i) 0) 16 0 (λ i h. a (143 + i) (omega arith) (omega arith)),
-      tabulate-same (λ i. getD s (159 + i) 0) (λ i. getD t (159 + i) 0) 16 0 (λ i h. a (159 + i) (omega arith) (omega arith)),
-      tabulate-same (λ i. getD s (175 + i) 0) (λ i. getD t (175 + i) 0) 16 0 (λ i h. a (175 + i) (omega arith) (omega arith)),
+      a cancelledWord (omega arith) (omega arith),
+      a removalChannelWord (omega arith) (omega arith),
+      a removalHandleWord (omega arith) (omega arith),
+      a requestWord (omega arith) (omega arith),
+      a countWord (omega arith) (omega arith),
+      a positionWord (omega arith) (omega arith),
+      a collectedWord (omega arith) (omega arith),
+      tabulate-same (λ i. getD s (firstAddressWord + i) 0) (λ i. getD t (firstAddressWord + i) 0) mostRecords 0 (λ i h. a (firstAddressWord + i) (omega arith) (omega arith)),
+      tabulate-same (λ i. getD s (firstSizeWord + i) 0) (λ i. getD t (firstSizeWord + i) 0) mostRecords 0 (λ i h. a (firstSizeWord + i) (omega arith) (omega arith)),
+      tabulate-same (λ i. getD s (firstResultWord + i) 0) (λ i. getD t (firstResultWord + i) 0) mostRecords 0 (λ i h. a (firstResultWord + i) (omega arith) (omega arith)),
     )
 
 -- no removal
-pub without-frame : (s : List ℕ) (j : ℕ) → j < 135 → getD (withoutRemoval s) j 0 ≡ getD s j 0
+pub without-frame : (s : List ℕ) (j : ℕ) → j < outstandingWord → getD (withoutRemoval s) j 0 ≡ getD s j 0
 unfolding withoutRemoval
-without-frame s j h = sets-below s (replicate 56 0) 135 j h
+without-frame s j h = sets-below s (replicate removalWords 0) outstandingWord j h
 
 pub without-length : (s : List ℕ) → length (withoutRemoval s) ≡ length s
 unfolding withoutRemoval
-without-length s = length-sets s 135 (replicate 56 0)
+without-length s = length-sets s outstandingWord (replicate removalWords 0)
 
-pub without-outstanding : (s : List ℕ) → length s ≡ 191 → outstandingOf (withoutRemoval s) ≡ 0
+pub without-outstanding : (s : List ℕ) → length s ≡ stateWords → outstandingOf (withoutRemoval s) ≡ 0
 unfolding withoutRemoval
-without-outstanding s n = sets-at s (replicate 56 0) 135 0 (omega arith) (omega arith)
+without-outstanding s n = sets-at s (replicate removalWords 0) outstandingWord 0 (omega arith) (omega arith)
 
 -- a service's words, and the counts, as they then are
-module _ (s : List ℕ) (k stage handle minor : ℕ) (n : length s ≡ 191) (b : k < 16) where
-  pub service-word : (i : ℕ) → i < 3 → getD (withService s k stage handle minor) (4 + k * 3 + i) 0 ≡ getD (stage ∷ handle ∷ minor ∷ []) i 0
+module _ (s : List ℕ) (k stage handle minor : ℕ) (n : length s ≡ stateWords) (b : k < placeCount) where
+  pub service-word : (i : ℕ) → i < serviceWords → getD (withService s k stage handle minor) (firstStageWord + k * serviceWords + i) 0 ≡ getD (stage ∷ handle ∷ minor ∷ []) i 0
   unfolding withService
-  service-word i h = sets-at s (stage ∷ handle ∷ minor ∷ []) (4 + k * 3) i h (omega arith)
+  service-word i h = sets-at s (stage ∷ handle ∷ minor ∷ []) (firstStageWord + k * serviceWords) i h (omega arith)
 
-module _ (s : List ℕ) (last held : ℕ) (n : length s ≡ 191) where
-  pub last-counts : getD (withCounts s last held) 133 0 ≡ last
+module _ (s : List ℕ) (last held : ℕ) (n : length s ≡ stateWords) where
+  pub last-counts : getD (withCounts s last held) lastWord 0 ≡ last
   unfolding withCounts
-  last-counts = sets-at s (last ∷ held ∷ []) 133 0 (omega arith) (omega arith)
+  last-counts = sets-at s (last ∷ held ∷ []) lastWord 0 (omega arith) (omega arith)
 
-  pub held-counts : getD (withCounts s last held) 134 0 ≡ held
+  pub held-counts : getD (withCounts s last held) heldWord 0 ≡ held
   unfolding withCounts
-  held-counts = sets-at s (last ∷ held ∷ []) 133 1 (omega arith) (omega arith)
+  held-counts = sets-at s (last ∷ held ∷ []) lastWord 1 (omega arith) (omega arith)
 
 -- a channel's words as they then are
-module _ (s : List ℕ) (c ready : ℕ) (n : length s ≡ 191) (b : c < 4) where
+module _ (s : List ℕ) (c ready : ℕ) (n : length s ≡ stateWords) (b : c < channelCount) where
   pub channel-ready : getD (withChannel s c ready) c 0 ≡ ready
   unfolding withChannel
   channel-ready =
-      sets-below (set s c ready) (replicate 12 0) (4 + c * 12) c (omega arith) ∙ getD-set-same s c ready 0 (omega arith)
+      sets-below (set s c ready) (replicate channelWords 0) (firstStageWord + c * channelWords) c (omega arith) ∙ getD-set-same s c ready 0 (omega arith)
 
-  pub channel-zero : (i : ℕ) → i < 12 → getD (withChannel s c ready) (4 + c * 12 + i) 0 ≡ 0
+  pub channel-zero : (i : ℕ) → i < channelWords → getD (withChannel s c ready) (firstStageWord + c * channelWords + i) 0 ≡ 0
   unfolding withChannel
   channel-zero i h =
-      sets-at (set s c ready) (replicate 12 0) (4 + c * 12) i (omega arith) (omega (arith, length-set s c ready))
-      ∙ getD-replicate 12 i 0 0 h
+      sets-at (set s c ready) (replicate channelWords 0) (firstStageWord + c * channelWords) i (omega arith) (omega (arith, length-set s c ready))
+      ∙ getD-replicate channelWords i 0 0 h
 
-pub configured-word : (s : List ℕ) (i flag : ℕ) → length s ≡ 191 → i < 16 → getD (withConfigured s i flag) (53 + i * 5 + 4) 0 ≡ flag
+pub configured-word : (s : List ℕ) (i flag : ℕ) → length s ≡ stateWords → i < mostRecords → getD (withConfigured s i flag) (firstBlockWord + i * blockWords + configuredPlace) 0 ≡ flag
 unfolding withConfigured
-configured-word s i flag n h = getD-set-same s (53 + i * 5 + 4) flag 0 (omega arith)
+configured-word s i flag n h = getD-set-same s (firstBlockWord + i * blockWords + configuredPlace) flag 0 (omega arith)

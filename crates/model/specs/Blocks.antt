@@ -2,16 +2,25 @@
 -- Assumes nothing.
 use Prim.Native.Nat.{ℕ, zero, suc, _+_, _*_, _/_, _%_}
 use mathlib.Core.Bool.{Bool}
-use mathlib.Core.List.{List}
+use mathlib.Core.List.{List, []}
 use lib.ListN.{length, set, replicate}
 use lib.Seq.{sets}
-use lib.Dec.{leb, ltb, eqb}
-use Rattle.model.specs.Choice.{pick, _and_, every}
-use Rattle.model.specs.Layout.{Block, blockIn, blockAt, blocksOf, stateWords, blockCountWord, firstBlockWord}
+use lib.Dec.{leb, eqb}
+use Rattle.model.specs.declared.Found.{Found}
+use Rattle.model.specs.Choice.{pick, _and_, every, firstBelow}
+use Rattle.model.specs.Layout.{Block, blockIn, blockAt, blocksOf, mostBlocks, blockWords, stateWords, blockCountWord, firstBlockWord}
 
 -- "A page is 8,192 bytes."
 abbrev pub pageSize : ℕ
 pageSize = 8192
+
+-- "pages 1 to 1,048,576"
+abbrev pub mostPages : ℕ
+mostPages = 1048576
+
+-- "the end is at most 2^63"
+abbrev pub highestEnd : ℕ
+highestEnd = 9223372036854775808
 
 abbrev pub sizeOf : Block → ℕ
 sizeOf b = b .pages * pageSize
@@ -25,8 +34,8 @@ unfoldable pub blockKeeps : Block → ℕ → Bool
 blockKeeps b floor =
     eqb (b .base % pageSize) 0
     and leb 1 (b .pages)
-    and leb (b .pages) 1048576
-    and leb (endOf b) 9223372036854775808
+    and leb (b .pages) mostPages
+    and leb (endOf b) highestEnd
     and leb floor (b .base)
     and leb (b .first + b .permanent) (b .pages)
     and leb (b .configured) 1
@@ -39,31 +48,32 @@ endBefore l at (suc i) = endOf (blockIn l at i)
 
 -- the n blocks whose words stand in l from at on keep the rules
 unfoldable pub blocksKeep : List ℕ → ℕ → ℕ → Bool
-blocksKeep l at n = leb n 16 and every n (λ i. blockKeeps (blockIn l at i) (endBefore l at i))
+blocksKeep l at n = leb n mostBlocks and every n (λ i. blockKeeps (blockIn l at i) (endBefore l at i))
 
--- setup accepts a list of whole blocks that keep the rules (else refusal 7)
-unfoldable pub acceptedList : List ℕ → Bool
-acceptedList l = eqb (length l % 5) 0 and blocksKeep l 0 (length l / 5)
+-- a list of whole blocks that keep the rules
+unfoldable pub acceptedBlocks : List ℕ → Bool
+acceptedBlocks l = eqb (length l % blockWords) 0 and blocksKeep l 0 (length l / blockWords)
+
+-- what the host gives at setup
+pub record Lists : Type 0 where
+  pub blocks : List ℕ
+
+abbrev pub noLists : Lists
+noLists = record { blocks = [] }
+
+-- setup accepts the lists (else refusal 7)
+unfoldable pub acceptedLists : Lists → Bool
+acceptedLists l = acceptedBlocks (l .blocks)
 
 -- "Setup leaves all channels closed, nothing outstanding, the journal empty."
-unfoldable pub setupState : List ℕ → List ℕ
-setupState l = sets (set (replicate stateWords 0) blockCountWord (length l / 5)) firstBlockWord l
+unfoldable pub setupState : Lists → List ℕ
+setupState l =
+    sets (set (replicate stateWords 0) blockCountWord (length (l .blocks) / blockWords)) firstBlockWord (l .blocks)
 
 -- "A pair names a block if addr is its base and size is all of it."
 unfoldable pub names : ℕ → ℕ → Block → Bool
 names addr size b = eqb (b .base) addr and eqb (sizeOf b) size
 
--- the first block below n that the pair names, n where there is none
-unfoldable pub namedBelow : List ℕ → ℕ → ℕ → ℕ → ℕ
-namedBelow s addr size zero = 0
-namedBelow s addr size (suc n) =
-    pick (ltb (namedBelow s addr size n) n)
-    (namedBelow s addr size n)
-    (pick (names addr size (blockAt s n)) n (suc n))
-
--- the number of the block that the pair names, and whether it names one
-abbrev pub namedBlock : List ℕ → ℕ → ℕ → ℕ
-namedBlock s addr size = namedBelow s addr size (blocksOf s)
-
-unfoldable pub isNamed : List ℕ → ℕ → ℕ → Bool
-isNamed s addr size = ltb (namedBlock s addr size) (blocksOf s)
+-- the block that the pair names, if there is one
+unfoldable pub namedBlock : List ℕ → ℕ → ℕ → Found
+namedBlock s addr size = firstBelow (blocksOf s) (λ i. names addr size (blockAt s i))

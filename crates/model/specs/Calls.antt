@@ -6,27 +6,34 @@ use mathlib.Core.List.{List, [], _++_}
 use lib.ListN.{length, drop}
 use lib.Dec.{leb, ltb, eqb}
 use Rattle.wire.specs.BigEndian.{written}
-use Rattle.model.specs.Choice.{pick, _and_, _or_, firstOf}
+use Rattle.model.specs.Choice.{pick, _and_}
+use Rattle.model.specs.declared.Found.{Found}
+use Rattle.model.specs.declared.Found.the-variants.{At, Nowhere}
 use Rattle.model.specs.declared.Message.{Message}
 use Rattle.model.specs.declared.Message.the-variants.{InitReq, RegReq, RegAck, RegNack, Unreg, UnregAck, UnregNack, Data, Nack, Bad}
+use Rattle.model.specs.declared.Route.{Route}
+use Rattle.model.specs.declared.Route.the-variants.{Memory, Host}
 use Rattle.model.specs.declared.Started.{Started}
-use Rattle.model.specs.Layout.{readyAt, placeOf, stageAt, lastOf, heldOf, outstandingOf, isSet, withCounts}
-use Rattle.model.specs.Blocks.{acceptedList, setupState}
+use Rattle.model.specs.Layout.{channelCount, serviceCount, mostBudget, entryWords, dataHeaderBytes, stageIdle, readyAt, placeOf, stageAt, lastOf, heldOf, outstandingOf, isSet, withCounts}
+use Rattle.model.specs.Blocks.{Lists, noLists, acceptedLists, setupState}
 use Rattle.model.specs.State.{sound}
-use Rattle.model.specs.Refusals.{refusalOf, drainRefusal}
-use Rattle.model.specs.declared.Event.{Event}
+use Rattle.model.specs.Refusals.{actionRefusal, drainRefusal}
 use Rattle.model.specs.Journal.{deliveredEvent, dataRefusedEvent, entryOf, stored, entriesAt, wordsOf}
-use Rattle.model.specs.Messages.{DS-REG-REQ, DS-UNREG-ACK, DS-UNREG-NACK, DS-NACK, DS-REG-VER-NACK, DS-INV-HDL, Effect, effect, decoded, regNack, nack, offeredAs, registeredAs, liveAs, closing, noting, initiated, acknowledged, notAcknowledged, unregistered, offering, withdrawing}
+use Rattle.model.specs.Messages.{DS-REG-REQ, DS-UNREG-ACK, DS-UNREG-NACK, DS-NACK, DS-REG-VER-NACK, DS-INV-HDL, Effect, effect, route, decoded, regNack, nack, offeredFor, registeredFor, liveFor, closing, noting, initiated, acknowledged, notAcknowledged, unregistered, offering, withdrawing}
 use Rattle.model.specs.Memory.{answeredMemory}
 use Rattle.model.specs.Work.{working}
 
--- The calls of demand 3's list with their own arguments: channel, service, budget, message, output, drain's run.
+-- The calls that add an entry, with their own arguments: channel and message; channel and service; channel; budget.
+pub data Action : Type 0 where
+  receive : ℕ → List ℕ → Action
+  offer : ℕ → ℕ → Action
+  withdraw : ℕ → ℕ → Action
+  close : ℕ → Action
+  work : ℕ → Action
+
+-- The calls of demand 3's list: an action with the output that it is lent, or a drain with its run.
 pub data Call : Type 0 where
-  receive : ℕ → List ℕ → List ℕ → Call
-  offer : ℕ → ℕ → List ℕ → Call
-  withdraw : ℕ → ℕ → List ℕ → Call
-  close : ℕ → List ℕ → Call
-  work : ℕ → List ℕ → Call
+  act : Action → List ℕ → Call
   drain : List ℕ → Call
 
 -- What a call gives back: 0 or the refusal's number; the reply's length, or the number of entries drained; the pages moved; the state;
@@ -43,42 +50,36 @@ pub record Outcome : Type 0 where
 unfoldable pub refused : List ℕ → List ℕ → List ℕ → ℕ → Outcome
 refused s j buffer n = record { refusal = n; count = 0; pages = 0; state = s; journal = j; buffer = buffer }
 
--- the pages moved by a work step: the count of kinds 14 and 15
-unfoldable pub pagesIn : Event → ℕ
-pagesIn e = pick (eqb (e .kind) 14 or eqb (e .kind) 15) (e .count) 0
-
 -- "An accepted call writes its reply at the start of the output, touches no output byte beyond it, and adds one entry."
-unfoldable pub accepted : List ℕ → List ℕ → List ℕ → Effect → Outcome
-accepted s j out e = record {
+unfoldable pub accepted : List ℕ → List ℕ → List ℕ → ℕ → Effect → Outcome
+accepted s j out pages e = record {
   refusal = 0;
   count = length (e .reply);
-  pages = pagesIn (e .event);
+  pages = pages;
   state = withCounts (e .state) (lastOf s + 1) (heldOf s + 1);
   journal = stored j (lastOf s + 1) (entryOf (lastOf s + 1) (e .event));
   buffer = written (e .reply) out;
 }
 
-unfoldable pub decided : List ℕ → List ℕ → List ℕ → ℕ → Effect → Outcome
-decided s j out n e = pick (eqb n 0) (accepted s j out e) (refused s j out n)
-
 -- "DATA whose handle is registered on this channel reaches that service .. Otherwise the reply is NACK with the handle and result 3."
-unfoldable pub dataFor : List ℕ → ℕ → ℕ → List ℕ → ℕ → Effect
-dataFor s c handle payload v =
-    pick (eqb v 0) (answeredMemory s c handle payload)
-    (pick (ltb v 4)
-    (effect (deliveredEvent c v) s [])
-    (effect (dataRefusedEvent c handle) s (nack handle DS-INV-HDL)))
+unfoldable pub routed : List ℕ → ℕ → ℕ → List ℕ → ℕ → Route → Effect
+routed s c handle payload v Memory = answeredMemory s c handle payload
+routed s c handle payload v Host = effect (deliveredEvent c v) s []
+
+unfoldable pub dataFor : List ℕ → ℕ → ℕ → List ℕ → Found → Effect
+dataFor s c handle payload (At v) = routed s c handle payload v (route v)
+dataFor s c handle payload Nowhere = effect (dataRefusedEvent c handle) s (nack handle DS-INV-HDL)
 
 -- what a message does on a channel that hears it; none hears `Bad`
 unfoldable pub heard : List ℕ → ℕ → List ℕ → Message → Effect
 heard s c m (InitReq major) = initiated s c major
 heard s c m (RegReq handle) = noting s c DS-REG-REQ (regNack handle DS-REG-VER-NACK 0)
-heard s c m (RegAck handle minor) = acknowledged s c handle minor (firstOf (offeredAs s c handle))
-heard s c m (RegNack handle) = notAcknowledged s c (firstOf (offeredAs s c handle))
-heard s c m (Unreg handle) = unregistered s c handle (firstOf (liveAs s c handle))
+heard s c m (RegAck handle minor) = acknowledged s c handle minor (offeredFor s c handle)
+heard s c m (RegNack handle) = notAcknowledged s c (offeredFor s c handle)
+heard s c m (Unreg handle) = unregistered s c handle (liveFor s c handle)
 heard s c m UnregAck = noting s c DS-UNREG-ACK []
 heard s c m UnregNack = noting s c DS-UNREG-NACK []
-heard s c m (Data handle) = dataFor s c handle (drop 16 m) (firstOf (registeredAs s c handle))
+heard s c m (Data handle) = dataFor s c handle (drop dataHeaderBytes m) (registeredFor s c handle)
 heard s c m Nack = noting s c DS-NACK []
 heard s c m Bad = closing s c 1
 
@@ -100,15 +101,40 @@ unfoldable pub receiving : List ℕ → ℕ → List ℕ → Effect
 receiving s c m =
     pick (hears (eqb (readyAt s c) 1) (decoded m)) (heard s c m (decoded m)) (closing s c 1)
 
+-- Refusal 3: "channel or service above 3; budget 0 or above 65,535".
+unfoldable pub inRange : Action → Bool
+inRange (receive c m) = ltb c channelCount
+inRange (offer c v) = ltb c channelCount and ltb v serviceCount
+inRange (withdraw c v) = ltb c channelCount and ltb v serviceCount
+inRange (close c) = ltb c channelCount
+inRange (work budget) = leb 1 budget and leb budget mostBudget
+
 -- Refusal 6: "offer: channel closed or service not idle; withdraw: service idle; work: nothing outstanding".
-unfoldable pub canOffer : List ℕ → ℕ → ℕ → Bool
-canOffer s c v = eqb (readyAt s c) 1 and eqb (stageAt s (placeOf c v)) 0
+unfoldable pub allowed : List ℕ → Action → Bool
+allowed s (receive c m) = true
+allowed s (offer c v) = eqb (readyAt s c) 1 and eqb (stageAt s (placeOf c v)) stageIdle
+allowed s (withdraw c v) = not (eqb (stageAt s (placeOf c v)) stageIdle)
+allowed s (close c) = true
+allowed s (work budget) = isSet (outstandingOf s)
 
-unfoldable pub canWithdraw : List ℕ → ℕ → ℕ → Bool
-canWithdraw s c v = not (eqb (stageAt s (placeOf c v)) 0)
+-- what an accepted action does
+unfoldable pub effectOf : List ℕ → Action → Effect
+effectOf s (receive c m) = receiving s c m
+effectOf s (offer c v) = offering s c v
+effectOf s (withdraw c v) = withdrawing s c v
+effectOf s (close c) = closing s c 0
+effectOf s (work budget) = working s budget .effects
 
-unfoldable pub canWork : List ℕ → Bool
-canWork s = isSet (outstandingOf s)
+-- the pages that it moves: a work step's
+unfoldable pub pagesOf : List ℕ → Action → ℕ
+pagesOf s (receive c m) = 0
+pagesOf s (offer c v) = 0
+pagesOf s (withdraw c v) = 0
+pagesOf s (close c) = 0
+pagesOf s (work budget) = working s budget .pages
+
+unfoldable pub refusalOf : List ℕ → List ℕ → List ℕ → Action → ℕ
+refusalOf s j out a = actionRefusal s (length j) (length out) (inRange a) (allowed s a)
 
 -- "Drain copies the oldest entries to the start of a lent word run, as many whole ones as are held and fit, forgets them, returns their
 -- number, adds none, and touches no other word."
@@ -119,35 +145,37 @@ drained s j run n = record {
   pages = 0;
   state = withCounts s (lastOf s) (heldOf s - n);
   journal = j;
-  buffer = wordsOf (entriesAt j (lastOf s - heldOf s + 1) n) ++ drop (n * 2) run;
+  buffer = wordsOf (entriesAt j (lastOf s - heldOf s + 1) n) ++ drop (n * entryWords) run;
 }
-
-unfoldable pub draining : List ℕ → List ℕ → List ℕ → ℕ → Outcome
-draining s j run n = pick (eqb n 0) (drained s j run (min (heldOf s) (length run / 2))) (refused s j run n)
 
 -- what a call gives back
 unfoldable pub outcome : List ℕ → List ℕ → Call → Outcome
-outcome s j (receive c m out) =
-    decided s j out (refusalOf s (length j) (length out) (ltb c 4) true) (receiving s c m)
-outcome s j (offer c v out) =
-    decided s j out (refusalOf s (length j) (length out) (ltb c 4 and ltb v 4) (canOffer s c v)) (offering s c v)
-outcome s j (withdraw c v out) =
-    decided s j out (refusalOf s (length j) (length out) (ltb c 4 and ltb v 4) (canWithdraw s c v)) (withdrawing s c v)
-outcome s j (close c out) =
-    decided s j out (refusalOf s (length j) (length out) (ltb c 4) true) (closing s c 0)
-outcome s j (work budget out) =
-    decided s j out (refusalOf s (length j) (length out) (leb 1 budget and leb budget 65535) (canWork s)) (working s budget)
-outcome s j (drain run) = draining s j run (drainRefusal s (length j))
+outcome s j (act a out) =
+    pick (eqb (refusalOf s j out a) 0)
+    (accepted s j out (pagesOf s a) (effectOf s a))
+    (refused s j out (refusalOf s j out a))
+outcome s j (drain run) =
+    pick (eqb (drainRefusal s (length j)) 0)
+    (drained s j run (min (heldOf s) (length run / entryWords)))
+    (refused s j run (drainRefusal s (length j)))
 
 -- Setup: 7 where "the list is not whole blocks or breaks a rule above"; refused, it gives the state of the empty list.
-unfoldable pub started : List ℕ → Started
+unfoldable pub started : Lists → Started
 started l =
-    pick (acceptedList l)
+    pick (acceptedLists l)
     (record { refusal = 0; state = setupState l })
-    (record { refusal = 7; state = setupState [] })
+    (record { refusal = 7; state = setupState noLists })
 
 -- Show: "the part of its own message from byte 16 on, if it is well-formed DATA whose handle that sound state has registered there for
 -- service 1, 2 or 3, else an empty part".
+unfoldable pub isHost : Route → Bool
+isHost Memory = false
+isHost Host = true
+
+unfoldable pub goesToHost : Found → Bool
+goesToHost (At v) = isHost (route v)
+goesToHost Nowhere = false
+
 unfoldable pub toHost : List ℕ → ℕ → Message → Bool
 toHost s c (InitReq major) = false
 toHost s c (RegReq handle) = false
@@ -156,9 +184,12 @@ toHost s c (RegNack handle) = false
 toHost s c (Unreg handle) = false
 toHost s c UnregAck = false
 toHost s c UnregNack = false
-toHost s c (Data handle) = ltb 0 (firstOf (registeredAs s c handle)) and ltb (firstOf (registeredAs s c handle)) 4
+toHost s c (Data handle) = goesToHost (registeredFor s c handle)
 toHost s c Nack = false
 toHost s c Bad = false
 
+unfoldable pub isShown : List ℕ → ℕ → List ℕ → Bool
+isShown s c m = sound s and ltb c channelCount and toHost s c (decoded m)
+
 unfoldable pub shown : List ℕ → ℕ → List ℕ → List ℕ
-shown s c m = pick (sound s and ltb c 4 and toHost s c (decoded m)) (drop 16 m) []
+shown s c m = pick (isShown s c m) (drop dataHeaderBytes m) []

@@ -3,6 +3,9 @@
 use Prim.Native.Nat.{ℕ, zero, suc}
 use mathlib.Core.Bool.{Bool, true, false}
 use mathlib.Core.List.{List, [], _∷_, _++_}
+use lib.Dec.{eqb}
+use Rattle.model.specs.declared.Found.{Found}
+use Rattle.model.specs.declared.Found.the-variants.{At, Nowhere}
 
 infixr 35 _and_
 infixr 30 _or_
@@ -24,9 +27,24 @@ unfoldable pub every : ℕ → (ℕ → Bool) → Bool
 every zero f = true
 every (suc n) f = every n f and f n
 
--- the first number below 4 at which the test f passes, 4 where there is none
-unfoldable pub firstOf : (ℕ → Bool) → ℕ
-firstOf f = pick (f 0) 0 (pick (f 1) 1 (pick (f 2) 2 (pick (f 3) 3 4)))
+-- the first of two finds
+unfoldable pub orElse : Found → Found → Found
+orElse (At i) g = At i
+orElse Nowhere g = g
+
+-- the first number below n at which the test f passes, if there is one
+unfoldable pub firstBelow : ℕ → (ℕ → Bool) → Found
+firstBelow zero f = Nowhere
+firstBelow (suc n) f = orElse (firstBelow n f) (pick (f n) (At n) Nowhere)
+
+-- a place was found, and whether it is this one
+unfoldable pub isFound : Found → Bool
+isFound (At i) = true
+isFound Nowhere = false
+
+unfoldable pub isAt : ℕ → Found → Bool
+isAt k (At i) = eqb i k
+isAt k Nowhere = false
 
 -- f 0, f 1, and so on, n in all
 unfoldable pub tabulate : {A : Type 0} → (ℕ → A) → ℕ → List A

@@ -1,64 +1,96 @@
--- "A day at the panel": C1 to C10, of one list of calls.
+-- "A day at the panel": C1 to C10, of one list of calls, in literal bytes.
 -- Assumes nothing.
 use Prim.Native.Nat.{ℕ}
 use mathlib.Core.Path.{_≡_}
-use mathlib.Core.List.{List, [], _∷_, _++_}
-use lib.ListN.{getD, take, drop, replicate}
-use Rattle.wire.specs.BigEndian.{bytesOf}
+use mathlib.Core.List.{List, [], _∷_}
+use lib.ListN.{getD, replicate}
+use Rattle.model.specs.Layout.{outputBytes, journalWords}
+use Rattle.model.specs.Blocks.{Lists}
 use Rattle.model.specs.Journal.{wordsOf}
-use Rattle.model.specs.Messages.{DS-INIT-REQ, DS-REG-ACK, dsMessage, dsData}
-use Rattle.model.specs.Memory.{DR-MEM-UNCONFIGURE, DR-MEM-QUERY}
-use Rattle.model.specs.Calls.{Call, receive, offer, work, drain, Outcome, outcome, started}
-use Rattle.model.specs.Demand3.{Run, next, runs, start}
+use Rattle.model.specs.Messages.{serviceOf}
+use Rattle.model.specs.Calls.{Call, act, drain, receive, offer, work, started}
+use Rattle.model.specs.Demand3.{Done, runs, start, history, replyOf}
 
 -- "Blocks: A 0x10000000, 4 pages; B 0x20000000, 2 pages, first permanent 1, count 1; both configured."
-abbrev pub dayBlocks : List ℕ
-dayBlocks = 0x10000000 ∷ 4 ∷ 0 ∷ 0 ∷ 1 ∷ 0x20000000 ∷ 2 ∷ 1 ∷ 1 ∷ 1 ∷ []
+abbrev pub dayLists : Lists
+dayLists = record { blocks = 0x10000000 ∷ 4 ∷ 0 ∷ 0 ∷ 1 ∷ 0x20000000 ∷ 2 ∷ 1 ∷ 1 ∷ 1 ∷ [] }
 
 abbrev pub dayOutput : List ℕ
-dayOutput = replicate 672 0
+dayOutput = replicate outputBytes 0
 
-abbrev pub initReqOf : ℕ → ℕ → List ℕ
-initReqOf major minor = dsMessage DS-INIT-REQ (bytesOf 2 major ++ bytesOf 2 minor)
+abbrev pub dayJournal : List ℕ
+dayJournal = replicate journalWords 0
 
--- one record of addr and size in a memory request under handle 2
-abbrev pub requestUnder2 : ℕ → ℕ → ℕ → ℕ → List ℕ
-requestUnder2 type request addr size =
-    dsData 2 (bytesOf 4 type ++ bytesOf 4 1 ++ bytesOf 8 request ++ bytesOf 8 addr ++ bytesOf 8 size)
+-- INIT_REQ 1.0
+abbrev pub initReq1 : List ℕ
+initReq1 =
+    0x00 ∷ 0x00 ∷ 0x00 ∷ 0x00 ∷ 0x00 ∷ 0x00 ∷ 0x00 ∷ 0x04
+    ∷ 0x00 ∷ 0x01 ∷ 0x00 ∷ 0x00 ∷ []
+
+-- REG_ACK 2, minor 0
+abbrev pub regAck2 : List ℕ
+regAck2 =
+    0x00 ∷ 0x00 ∷ 0x00 ∷ 0x04 ∷ 0x00 ∷ 0x00 ∷ 0x00 ∷ 0x0a
+    ∷ 0x00 ∷ 0x00 ∷ 0x00 ∷ 0x00 ∷ 0x00 ∷ 0x00 ∷ 0x00 ∷ 0x02
+    ∷ 0x00 ∷ 0x00 ∷ []
+
+-- UNCONFIGURE A, req 9, under handle 2
+abbrev pub unconfigureA : List ℕ
+unconfigureA =
+    0x00 ∷ 0x00 ∷ 0x00 ∷ 0x09 ∷ 0x00 ∷ 0x00 ∷ 0x00 ∷ 0x28
+    ∷ 0x00 ∷ 0x00 ∷ 0x00 ∷ 0x00 ∷ 0x00 ∷ 0x00 ∷ 0x00 ∷ 0x02
+    ∷ 0x00 ∷ 0x00 ∷ 0x4d ∷ 0x55 ∷ 0x00 ∷ 0x00 ∷ 0x00 ∷ 0x01
+    ∷ 0x00 ∷ 0x00 ∷ 0x00 ∷ 0x00 ∷ 0x00 ∷ 0x00 ∷ 0x00 ∷ 0x09
+    ∷ 0x00 ∷ 0x00 ∷ 0x00 ∷ 0x00 ∷ 0x10 ∷ 0x00 ∷ 0x00 ∷ 0x00
+    ∷ 0x00 ∷ 0x00 ∷ 0x00 ∷ 0x00 ∷ 0x00 ∷ 0x00 ∷ 0x80 ∷ 0x00 ∷ []
+
+-- QUERY B, req 10, under handle 2
+abbrev pub queryB : List ℕ
+queryB =
+    0x00 ∷ 0x00 ∷ 0x00 ∷ 0x09 ∷ 0x00 ∷ 0x00 ∷ 0x00 ∷ 0x28
+    ∷ 0x00 ∷ 0x00 ∷ 0x00 ∷ 0x00 ∷ 0x00 ∷ 0x00 ∷ 0x00 ∷ 0x02
+    ∷ 0x00 ∷ 0x00 ∷ 0x4d ∷ 0x51 ∷ 0x00 ∷ 0x00 ∷ 0x00 ∷ 0x01
+    ∷ 0x00 ∷ 0x00 ∷ 0x00 ∷ 0x00 ∷ 0x00 ∷ 0x00 ∷ 0x00 ∷ 0x0a
+    ∷ 0x00 ∷ 0x00 ∷ 0x00 ∷ 0x00 ∷ 0x20 ∷ 0x00 ∷ 0x00 ∷ 0x00
+    ∷ 0x00 ∷ 0x00 ∷ 0x00 ∷ 0x00 ∷ 0x00 ∷ 0x00 ∷ 0x40 ∷ 0x00 ∷ []
+
+-- INIT_REQ 3.0
+abbrev pub initReq3 : List ℕ
+initReq3 =
+    0x00 ∷ 0x00 ∷ 0x00 ∷ 0x00 ∷ 0x00 ∷ 0x00 ∷ 0x00 ∷ 0x04
+    ∷ 0x00 ∷ 0x03 ∷ 0x00 ∷ 0x00 ∷ []
 
 -- "Channel 2: INIT_REQ 1.0; offer dr-mem; REG_ACK 2, minor 0; UNCONFIGURE A, req 9; work 3, 3, 1", a drain, QUERY B, INIT_REQ 3.0
 abbrev pub dayCalls : List Call
 dayCalls =
-    receive 2 (initReqOf 1 0) dayOutput
-    ∷ offer 2 0 dayOutput
-    ∷ receive 2 (dsMessage DS-REG-ACK (bytesOf 8 2 ++ bytesOf 2 0)) dayOutput
-    ∷ receive 2 (requestUnder2 DR-MEM-UNCONFIGURE 9 0x10000000 0x8000) dayOutput
-    ∷ work 3 dayOutput
-    ∷ work 3 dayOutput
-    ∷ work 1 dayOutput
-    ∷ drain (replicate 128 0)
-    ∷ receive 2 (requestUnder2 DR-MEM-QUERY 10 0x20000000 0x4000) dayOutput
-    ∷ receive 2 (initReqOf 3 0) dayOutput
+    act (receive 2 initReq1) dayOutput
+    ∷ act (offer 2 0) dayOutput
+    ∷ act (receive 2 regAck2) dayOutput
+    ∷ act (receive 2 unconfigureA) dayOutput
+    ∷ act (work 3) dayOutput
+    ∷ act (work 3) dayOutput
+    ∷ act (work 1) dayOutput
+    ∷ drain dayJournal
+    ∷ act (receive 2 queryB) dayOutput
+    ∷ act (receive 2 initReq3) dayOutput
     ∷ []
 
--- what each call of a list gives back
-unfoldable pub outcomes : Run → List Call → List Outcome
-outcomes u [] = []
-outcomes u (call ∷ calls) = outcome (u .state) (u .journal) call ∷ outcomes (next u call) calls
+abbrev pub dayHistory : List Done
+dayHistory = history (start dayLists dayJournal) dayCalls
 
-unfoldable pub replies : List Outcome → List (List ℕ)
+unfoldable pub replies : List Done → List (List ℕ)
 replies [] = []
-replies (r ∷ rs) = take (r .count) (r .buffer) ∷ replies rs
+replies (d ∷ ds) = replyOf (d .gave) ∷ replies ds
 
 -- the reply of call i of the day
 abbrev pub dayReply : ℕ → List ℕ
-dayReply i = getD (replies (outcomes (start dayBlocks (replicate 128 0)) dayCalls)) i []
+dayReply i = getD (replies dayHistory) i []
 
 pub record Day : Type 0 where
-  pub setup : started dayBlocks .refusal ≡ 0
+  pub setup : started dayLists .refusal ≡ 0
   -- C1 to C7, "the whole drained list"
   pub c1-c7 :
-      wordsOf (runs (start dayBlocks (replicate 128 0)) dayCalls .drained)
+      wordsOf (runs (start dayLists dayJournal) dayHistory .drained)
       ≡ 0x000000010C000000 ∷ 0
       ∷ 0x0000000224000000 ∷ 0
       ∷ 0x000000032C000000 ∷ 2
@@ -67,14 +99,60 @@ pub record Day : Type 0 where
       ∷ 0x000000067C000001 ∷ 0
       ∷ 0x0000000784000001 ∷ 9
       ∷ []
+  -- "ACK (0x1) with minor 0"
+  pub initAck :
+      dayReply 0
+      ≡ 0x00 ∷ 0x00 ∷ 0x00 ∷ 0x01 ∷ 0x00 ∷ 0x00 ∷ 0x00 ∷ 0x02
+      ∷ 0x00 ∷ 0x00 ∷ []
+  -- "REG_REQ with the id and its zero", under handle 2
+  pub regReq :
+      dayReply 1
+      ≡ 0x00 ∷ 0x00 ∷ 0x00 ∷ 0x03 ∷ 0x00 ∷ 0x00 ∷ 0x00 ∷ 0x13
+      ∷ 0x00 ∷ 0x00 ∷ 0x00 ∷ 0x00 ∷ 0x00 ∷ 0x00 ∷ 0x00 ∷ 0x02
+      ∷ 0x00 ∷ 0x01 ∷ 0x00 ∷ 0x00 ∷ 0x64 ∷ 0x72 ∷ 0x2d ∷ 0x6d
+      ∷ 0x65 ∷ 0x6d ∷ 0x00 ∷ []
   -- "C8, the last reply, 60 bytes"
   pub c8 :
       dayReply 6
-      ≡ bytesOf 4 0x00000009 ++ bytesOf 4 0x00000034 ++ bytesOf 8 0x0000000000000002
-      ++ bytesOf 4 0x0000006f ++ bytesOf 4 0x00000001 ++ bytesOf 8 0x0000000000000009
-      ++ bytesOf 8 0x0000000010000000 ++ bytesOf 8 0x0000000000008000
-      ++ bytesOf 4 0x00000000 ++ bytesOf 4 0x00000001 ++ bytesOf 4 0x00000000
+      ≡ 0x00 ∷ 0x00 ∷ 0x00 ∷ 0x09 ∷ 0x00 ∷ 0x00 ∷ 0x00 ∷ 0x34
+      ∷ 0x00 ∷ 0x00 ∷ 0x00 ∷ 0x00 ∷ 0x00 ∷ 0x00 ∷ 0x00 ∷ 0x02
+      ∷ 0x00 ∷ 0x00 ∷ 0x00 ∷ 0x6f ∷ 0x00 ∷ 0x00 ∷ 0x00 ∷ 0x01
+      ∷ 0x00 ∷ 0x00 ∷ 0x00 ∷ 0x00 ∷ 0x00 ∷ 0x00 ∷ 0x00 ∷ 0x09
+      ∷ 0x00 ∷ 0x00 ∷ 0x00 ∷ 0x00 ∷ 0x10 ∷ 0x00 ∷ 0x00 ∷ 0x00
+      ∷ 0x00 ∷ 0x00 ∷ 0x00 ∷ 0x00 ∷ 0x00 ∷ 0x00 ∷ 0x80 ∷ 0x00
+      ∷ 0x00 ∷ 0x00 ∷ 0x00 ∷ 0x00 ∷ 0x00 ∷ 0x00 ∷ 0x00 ∷ 0x01
+      ∷ 0x00 ∷ 0x00 ∷ 0x00 ∷ 0x00 ∷ []
   -- "C9: INIT_REQ 3.0 gives"
-  pub c9 : dayReply 9 ≡ bytesOf 4 0x00000002 ++ bytesOf 4 0x00000002 ++ bytesOf 2 0x0001
-  -- "C10: QUERY B gives 8192, 0x20002000, 0x20003FFF": after the headers and the record's address and size
-  pub c10 : drop 48 (dayReply 8) ≡ bytesOf 8 8192 ++ bytesOf 8 0x20002000 ++ bytesOf 8 0x20003FFF
+  pub c9 :
+      dayReply 9
+      ≡ 0x00 ∷ 0x00 ∷ 0x00 ∷ 0x02 ∷ 0x00 ∷ 0x00 ∷ 0x00 ∷ 0x02
+      ∷ 0x00 ∷ 0x01 ∷ []
+  -- "C10: QUERY B gives 8192, 0x20002000, 0x20003FFF"
+  pub c10 :
+      dayReply 8
+      ≡ 0x00 ∷ 0x00 ∷ 0x00 ∷ 0x09 ∷ 0x00 ∷ 0x00 ∷ 0x00 ∷ 0x40
+      ∷ 0x00 ∷ 0x00 ∷ 0x00 ∷ 0x00 ∷ 0x00 ∷ 0x00 ∷ 0x00 ∷ 0x02
+      ∷ 0x00 ∷ 0x00 ∷ 0x00 ∷ 0x6f ∷ 0x00 ∷ 0x00 ∷ 0x00 ∷ 0x01
+      ∷ 0x00 ∷ 0x00 ∷ 0x00 ∷ 0x00 ∷ 0x00 ∷ 0x00 ∷ 0x00 ∷ 0x0a
+      ∷ 0x00 ∷ 0x00 ∷ 0x00 ∷ 0x00 ∷ 0x20 ∷ 0x00 ∷ 0x00 ∷ 0x00
+      ∷ 0x00 ∷ 0x00 ∷ 0x00 ∷ 0x00 ∷ 0x00 ∷ 0x00 ∷ 0x40 ∷ 0x00
+      ∷ 0x00 ∷ 0x00 ∷ 0x00 ∷ 0x00 ∷ 0x00 ∷ 0x00 ∷ 0x20 ∷ 0x00
+      ∷ 0x00 ∷ 0x00 ∷ 0x00 ∷ 0x00 ∷ 0x20 ∷ 0x00 ∷ 0x20 ∷ 0x00
+      ∷ 0x00 ∷ 0x00 ∷ 0x00 ∷ 0x00 ∷ 0x20 ∷ 0x00 ∷ 0x3f ∷ 0xff ∷ []
+
+-- the four ids of 01's table, each with its zero
+pub record Ids : Type 0 where
+  pub dr-mem :
+      serviceOf 0 .id
+      ≡ 0x64 ∷ 0x72 ∷ 0x2d ∷ 0x6d ∷ 0x65 ∷ 0x6d ∷ 0x00 ∷ []
+  pub dr-vio :
+      serviceOf 1 .id
+      ≡ 0x64 ∷ 0x72 ∷ 0x2d ∷ 0x76 ∷ 0x69 ∷ 0x6f ∷ 0x00 ∷ []
+  pub domain-shutdown :
+      serviceOf 2 .id
+      ≡ 0x64 ∷ 0x6f ∷ 0x6d ∷ 0x61 ∷ 0x69 ∷ 0x6e ∷ 0x2d ∷ 0x73
+      ∷ 0x68 ∷ 0x75 ∷ 0x74 ∷ 0x64 ∷ 0x6f ∷ 0x77 ∷ 0x6e ∷ 0x00 ∷ []
+  pub domain-panic :
+      serviceOf 3 .id
+      ≡ 0x64 ∷ 0x6f ∷ 0x6d ∷ 0x61 ∷ 0x69 ∷ 0x6e ∷ 0x2d ∷ 0x70
+      ∷ 0x61 ∷ 0x6e ∷ 0x69 ∷ 0x63 ∷ 0x00 ∷ []

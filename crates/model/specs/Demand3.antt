@@ -1,23 +1,30 @@
 -- Demand 3: "a single claim about the whole list of calls, not one for each".
 -- A message is any list of numbers, each read as a byte; journals, runs and block lists are any lists; channels, services and budgets
--- any numbers. Nothing is asked but that setup accepts the block list.
+-- any numbers.
 -- Assumes nothing.
 use Prim.Native.Nat.{ℕ, _+_, _-_, _≤_, _<_}
 use mathlib.Core.Path.{_≡_}
-use mathlib.Core.Bool.{Bool, true, false, not}
+use mathlib.Core.Bool.{Bool, true, false}
 use mathlib.Core.List.{List, [], _∷_, _++_}
 use lib.ListN.{length, getD, take}
-use lib.Dec.{eqb, leb}
+use lib.Dec.{eqb}
 use Rattle.wire.specs.BigEndian.{numberAt}
-use Rattle.entry.specs.declared.Fields.{Fields}
 use Rattle.entry.specs.Word.{unpacked}
-use Rattle.model.specs.Choice.{pick, _and_, _or_}
-use Rattle.model.specs.Layout.{lastOf, heldOf, placeOf}
-use Rattle.model.specs.Blocks.{acceptedList}
-use Rattle.model.specs.Journal.{Entry, entryAt, entriesAt, entriesIn}
-use Rattle.model.specs.Messages.{DS-INV-HDL, DS-DATA, typeOf, payloadLength, nack}
-use Rattle.model.specs.Calls.{Call, receive, offer, withdraw, close, work, drain, Outcome, outcome, started}
+use Rattle.model.specs.Choice.{pick, _and_, firstBelow, isFound, isAt}
+use Rattle.model.specs.declared.Event.{Event}
+use Rattle.model.specs.declared.Found.{Found}
+use Rattle.model.specs.declared.Found.the-variants.{Nowhere}
+use Rattle.model.specs.Layout.{serviceCount, mostHeld, dsHeaderBytes, lastOf, heldOf, placeOf}
+use Rattle.model.specs.Blocks.{Lists}
+use Rattle.model.specs.Journal.{Entry, eventOf, entryAt, entriesAt, entriesIn, servedBy}
+use Rattle.model.specs.Messages.{DS-INV-HDL, DS-DATA, mostPayload, typeOf, payloadLength, nack}
+use Rattle.model.specs.Calls.{Call, act, drain, receive, Outcome, outcome, started}
 use Rattle.model.specs.Reading.{View, Stage, idle, offered, registered, viewOf, setupView, reading}
+
+-- a call, and what it returned and left
+pub record Done : Type 0 where
+  pub call : Call
+  pub gave : Outcome
 
 -- What a list of calls has left: the state, the journal, the entries drained, and k, the number of accepted calls that are no drains.
 pub record Run : Type 0 where
@@ -28,41 +35,42 @@ pub record Run : Type 0 where
 
 -- "Drained are the entries at the start of each accepted drain's run as it returns, as many as it answers"
 unfoldable pub drainedBy : Call → Outcome → List Entry
-drainedBy (receive c m out) r = []
-drainedBy (offer c v out) r = []
-drainedBy (withdraw c v out) r = []
-drainedBy (close c out) r = []
-drainedBy (work budget out) r = []
+drainedBy (act a out) r = []
 drainedBy (drain run) r = pick (eqb (r .refusal) 0) (entriesIn (r .count) (r .buffer)) []
 
 -- 1 for an accepted call that is no drain
 unfoldable pub numberedBy : Call → Outcome → ℕ
-numberedBy (receive c m out) r = pick (eqb (r .refusal) 0) 1 0
-numberedBy (offer c v out) r = pick (eqb (r .refusal) 0) 1 0
-numberedBy (withdraw c v out) r = pick (eqb (r .refusal) 0) 1 0
-numberedBy (close c out) r = pick (eqb (r .refusal) 0) 1 0
-numberedBy (work budget out) r = pick (eqb (r .refusal) 0) 1 0
+numberedBy (act a out) r = pick (eqb (r .refusal) 0) 1 0
 numberedBy (drain run) r = 0
 
 -- "Each later one is given the state and journal that the last one left."
-unfoldable pub after : Run → Call → Outcome → Run
-after u call r = record {
-  state = r .state;
-  journal = r .journal;
-  drained = u .drained ++ drainedBy call r;
-  number = u .number + numberedBy call r;
+unfoldable pub after : Run → Done → Run
+after u d = record {
+  state = d .gave .state;
+  journal = d .gave .journal;
+  drained = u .drained ++ drainedBy (d .call) (d .gave);
+  number = u .number + numberedBy (d .call) (d .gave);
 }
 
-unfoldable pub next : Run → Call → Run
-next u call = after u call (outcome (u .state) (u .journal) call)
-
-unfoldable pub runs : Run → List Call → Run
+unfoldable pub runs : Run → List Done → Run
 runs u [] = u
-runs u (call ∷ calls) = runs (next u call) calls
+runs u (d ∷ ds) = runs (after u d) ds
+
+-- before any call, with the state that setup made
+abbrev pub newRun : List ℕ → List ℕ → Run
+newRun s j = record { state = s; journal = j; drained = []; number = 0 }
 
 -- "The first is given the state that setup made of that block list, and a journal of any content."
-unfoldable pub start : List ℕ → List ℕ → Run
-start l j = record { state = started l .state; journal = j; drained = []; number = 0 }
+unfoldable pub start : Lists → List ℕ → Run
+start l j = newRun (started l .state) j
+
+-- a call with what the definitions give for it, and a list of them
+abbrev pub doing : Run → Call → Done
+doing u call = record { call = call; gave = outcome (u .state) (u .journal) call }
+
+unfoldable pub history : Run → List Call → List Done
+history u [] = []
+history u (call ∷ calls) = doing u call ∷ history (after u (doing u call)) calls
 
 -- The entries drained, then those held: "the entries in the slots of numbers d + 1 to k of the journal last left".
 unfoldable pub entries : Run → List Entry
@@ -78,24 +86,20 @@ sameBytes [] (y ∷ ys) = false
 sameBytes (x ∷ xs) [] = false
 sameBytes (x ∷ xs) (y ∷ ys) = eqb x y and sameBytes xs ys
 
--- the reply of an outcome, and the fields of its entry
+-- the reply of an outcome, and what its entry tells
 unfoldable pub replyOf : Outcome → List ℕ
 replyOf r = take (r .count) (r .buffer)
 
-unfoldable pub noted : Outcome → Fields
-noted r = unpacked (entryAt (r .journal) (lastOf (r .state)) .first)
+abbrev pub lastEntry : Outcome → Entry
+lastEntry r = entryAt (r .journal) (lastOf (r .state))
 
--- Data "has reached it if the reply is not the NACK named next and its entry is of kind 8, or of 10 to 13 for service 0".
-unfoldable pub reached : ℕ → Outcome → Bool
-reached handle r =
-    not (sameBytes (replyOf r) (nack handle DS-INV-HDL))
-    and (eqb (noted r .kind) 8 or (leb 10 (noted r .kind) and leb (noted r .kind) 13))
+unfoldable pub noted : Outcome → Event
+noted r = eventOf (unpacked (lastEntry r .first)) (lastEntry r .second)
 
--- it has reached service v: its entry is of kind 8 and this service, or of 10 to 13 for service 0
-unfoldable pub reachedService : ℕ → ℕ → Outcome → Bool
-reachedService v handle r =
-    reached handle r
-    and pick (eqb v 0) (leb 10 (noted r .kind)) (eqb (noted r .kind) 8 and eqb (noted r .service) v)
+-- the service that data under a handle has reached, if any: "it has reached it if the reply is not the NACK named next and its entry is of
+-- kind 8, or of 10 to 13 for service 0"
+unfoldable pub reached : ℕ → Outcome → Found
+reached handle r = pick (sameBytes (replyOf r) (nack handle DS-INV-HDL)) Nowhere (servedBy (noted r))
 
 -- a view shows the handle registered on a channel for service v
 unfoldable pub showsHandle : ℕ → Stage → Bool
@@ -108,16 +112,12 @@ showsService view c handle v = showsHandle handle (getD (view .services) (placeO
 
 -- a view shows it registered on that channel
 unfoldable pub showsRegistered : View → ℕ → ℕ → Bool
-showsRegistered view c handle =
-    showsService view c handle 0
-    or showsService view c handle 1
-    or showsService view c handle 2
-    or showsService view c handle 3
+showsRegistered view c handle = isFound (firstBelow serviceCount (showsService view c handle))
 
 -- well-formed data under a handle, by its bytes
 pub record WellFormedData (m : List ℕ) (handle : ℕ) : Type 0 where
-  pub whole : length m ≡ 8 + payloadLength m
-  pub bounded : payloadLength m ≤ 4096
+  pub whole : length m ≡ dsHeaderBytes + payloadLength m
+  pub bounded : payloadLength m ≤ mostPayload
   pub isData : typeOf m ≡ DS-DATA
   pub hasHandle : 8 ≤ payloadLength m
   pub under : numberAt m 8 8 ≡ handle
@@ -125,34 +125,23 @@ pub record WellFormedData (m : List ℕ) (handle : ℕ) : Type 0 where
 -- "well-formed data reaches a service exactly when that reading, made just before the call, shows its handle registered on that channel",
 -- and the service that it reaches is that one
 pub record Delivers (view : View) (c handle : ℕ) (r : Outcome) : Type 0 where
-  pub exactly : reached handle r ≡ showsRegistered view c handle
-  pub thatOne : (v : ℕ) → v < 4 → reachedService v handle r ≡ showsService view c handle v
+  pub exactly : isFound (reached handle r) ≡ showsRegistered view c handle
+  pub thatOne : (v : ℕ) → v < serviceCount → isAt v (reached handle r) ≡ showsService view c handle v
 
--- Demand 3, of an accepted block list l, a first journal j and a list of calls.
-pub record Demand3 (l j : List ℕ) (calls : List Call) (u : Run) : Type 0 where
+-- Demand 3, of the lists l that setup was given, its state s, a first journal j and the calls made, each with what it returned and left.
+pub record Demand3 (l : Lists) (s j : List ℕ) (ds : List Done) (u : Run) : Type 0 where
   -- "Of all these the s-th has number s; the state's last number is k, and it holds k − d, at most 64."
   pub total : length (entries u) ≡ u .number
   pub numbered : (i : ℕ) → i < u .number → unpacked (getD (entries u) i noEntry .first) .number ≡ i + 1
   pub last : lastOf (u .state) ≡ u .number
   pub held : length (u .drained) + heldOf (u .state) ≡ u .number
-  pub atMost : heldOf (u .state) ≤ 64
+  pub atMost : heldOf (u .state) ≤ mostHeld
   -- "Read with that block list alone by 01's rules, they give back .. exactly as the last state has them."
   pub reads : reading (setupView l) (entries u) ≡ viewOf (u .state)
-  -- "In each accepted receive of the list ..": at each place of the same list
+  -- "In each accepted receive of the list ..": at each place of the same list, of what that receive itself returned and left
   pub delivers :
-      (before later : List Call) (c handle : ℕ) (m out : List ℕ) →
-      calls ≡ before ++ receive c m out ∷ later →
+      (before later : List Done) (c handle : ℕ) (m out : List ℕ) (r : Outcome) →
+      ds ≡ before ++ record { call = act (receive c m) out; gave = r } ∷ later →
       WellFormedData m handle →
-      outcome (runs (start l j) before .state) (runs (start l j) before .journal) (receive c m out) .refusal ≡ 0 →
-      Delivers
-      (reading (setupView l) (entries (runs (start l j) before)))
-      c
-      handle
-      (outcome (runs (start l j) before .state) (runs (start l j) before .journal) (receive c m out))
-
--- the claim: any accepted block list, any first journal, any list of calls
-abbrev pub Demand3Holds : Type 0
-Demand3Holds =
-    (l j : List ℕ) (calls : List Call) →
-    acceptedList l ≡ true →
-    Demand3 l j calls (runs (start l j) calls)
+      r .refusal ≡ 0 →
+      Delivers (reading (setupView l) (entries (runs (newRun s j) before))) c handle r

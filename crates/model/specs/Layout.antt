@@ -1,19 +1,15 @@
--- "What the agent holds": the state's 191 words by name, and the changes of them.
+-- "What the agent holds": the counts and limits of 01, the map of the state's words, and the changes of them. Each offset is computed from
+-- the one before it: words that a state gains stand after the last of these.
 --
---     0 ..   3   channel c: 0 closed, 1 ready
---     4 ..  51   service v of channel c, k = c * 4 + v, at 4 + k * 3: its stage (0 idle, 1 offered, 2 registered), handle, minor version
---    52          the number of blocks
---    53 .. 132   block i, at 53 + i * 5: base, pages, first permanent page, permanent pages, configured (0 or 1)
---   133          the last entry number used
---   134          the number of entries held
---   135          1 if a removal is outstanding, else 0
---   136          1 if it is cancelled, else 0
---   137 .. 142   its channel, handle, request number, count of records, position, pages collected
---   143 .. 158   the records' addresses
---   159 .. 174   the records' sizes
---   175 .. 190   the settled records' results: 0 OK, 4 NOWORK
+--   channel c: 0 closed, 1 ready
+--   service v of channel c, at place k = c * 4 + v: its stage (0 idle, 1 offered, 2 registered), handle, minor version
+--   the number of blocks; block i: base, pages, first permanent page, permanent pages, configured (0 or 1)
+--   the last entry number used; the number of entries held
+--   1 if a removal is outstanding, else 0; 1 if it is cancelled, else 0
+--   its channel, handle, request number, count of records, position, pages collected
+--   the records' addresses; their sizes; the settled records' results: 0 OK, 4 NOWORK
 -- Assumes nothing.
-use Prim.Native.Nat.{ℕ, _+_, _*_}
+use Prim.Native.Nat.{ℕ, _+_, _-_, _*_}
 use mathlib.Core.Bool.{Bool, true, false, not}
 use mathlib.Core.List.{List, [], _∷_}
 use lib.ListN.{getD, set, replicate}
@@ -22,47 +18,213 @@ use lib.Dec.{eqb}
 use Rattle.model.specs.Choice.{tabulate}
 use Rattle.model.specs.declared.Removal.{Removal}
 
-abbrev pub stateWords : ℕ
-stateWords = 191
+-- The counts and limits of 01.
 
--- where the blocks' number and their words stand
+-- "Four channels (0 to 3)"
+abbrev pub channelCount : ℕ
+channelCount = 4
+
+-- "Four services, from a table"
+abbrev pub serviceCount : ℕ
+serviceCount = 4
+
+-- the memory service, `dr-mem`
+abbrev pub memoryService : ℕ
+memoryService = 0
+
+-- the services of all channels
+abbrev pub placeCount : ℕ
+placeCount = channelCount * serviceCount
+
+-- "Blocks: 0 to 16"
+abbrev pub mostBlocks : ℕ
+mostBlocks = 16
+
+-- "1 to 16 records"
+abbrev pub mostRecords : ℕ
+mostRecords = 16
+
+-- "at most 64 entries are held"
+abbrev pub mostHeld : ℕ
+mostHeld = 64
+
+-- "the last entry number used (at most 4,294,967,295)"
+abbrev pub highestNumber : ℕ
+highestNumber = 4294967295
+
+-- a minor version has 16 bits
+abbrev pub highestMinor : ℕ
+highestMinor = 65535
+
+-- "budget 0 or above 65,535"
+abbrev pub mostBudget : ℕ
+mostBudget = 65535
+
+-- "two words a slot", and the journal's "128 words"
+abbrev pub entryWords : ℕ
+entryWords = 2
+
+abbrev pub journalWords : ℕ
+journalWords = mostHeld * entryWords
+
+-- Bytes of messages: DS's header; DATA's, with its handle; the memory service's; a pair of a request; the records of a reply; and the
+-- output's "672 bytes", the longest reply.
+abbrev pub dsHeaderBytes : ℕ
+dsHeaderBytes = 8
+
+abbrev pub dataHeaderBytes : ℕ
+dataHeaderBytes = 16
+
+abbrev pub memoryHeaderBytes : ℕ
+memoryHeaderBytes = 16
+
+abbrev pub replyHeaderBytes : ℕ
+replyHeaderBytes = dataHeaderBytes + memoryHeaderBytes
+
+abbrev pub pairBytes : ℕ
+pairBytes = 16
+
+abbrev pub resultBytes : ℕ
+resultBytes = 28
+
+abbrev pub statusBytes : ℕ
+statusBytes = 16
+
+abbrev pub queryBytes : ℕ
+queryBytes = 40
+
+abbrev pub outputBytes : ℕ
+outputBytes = replyHeaderBytes + mostRecords * queryBytes
+
+-- Stages of a service.
+abbrev pub stageIdle : ℕ
+stageIdle = 0
+
+abbrev pub stageOffered : ℕ
+stageOffered = 1
+
+abbrev pub stageRegistered : ℕ
+stageRegistered = 2
+
+-- Where the words stand, each after those before it.
+
+-- a service's words: its stage, handle, minor version
+abbrev pub serviceWords : ℕ
+serviceWords = 3
+
+-- a block's words: its base, and at these places its pages, first permanent page, permanent pages, configured
+abbrev pub blockWords : ℕ
+blockWords = 5
+
+abbrev pub pagesPlace : ℕ
+pagesPlace = 1
+
+abbrev pub firstPlace : ℕ
+firstPlace = 2
+
+abbrev pub permanentPlace : ℕ
+permanentPlace = 3
+
+abbrev pub configuredPlace : ℕ
+configuredPlace = 4
+
+-- the channels' own words stand first
+abbrev pub firstStageWord : ℕ
+firstStageWord = channelCount
+
+abbrev pub firstHandleWord : ℕ
+firstHandleWord = firstStageWord + 1
+
+abbrev pub firstMinorWord : ℕ
+firstMinorWord = firstHandleWord + 1
+
+abbrev pub channelWords : ℕ
+channelWords = serviceCount * serviceWords
+
 abbrev pub blockCountWord : ℕ
-blockCountWord = 52
+blockCountWord = firstStageWord + placeCount * serviceWords
 
 abbrev pub firstBlockWord : ℕ
-firstBlockWord = 53
+firstBlockWord = blockCountWord + 1
 
+abbrev pub lastWord : ℕ
+lastWord = firstBlockWord + mostBlocks * blockWords
+
+abbrev pub heldWord : ℕ
+heldWord = lastWord + 1
+
+abbrev pub outstandingWord : ℕ
+outstandingWord = heldWord + 1
+
+abbrev pub cancelledWord : ℕ
+cancelledWord = outstandingWord + 1
+
+abbrev pub removalChannelWord : ℕ
+removalChannelWord = cancelledWord + 1
+
+abbrev pub removalHandleWord : ℕ
+removalHandleWord = removalChannelWord + 1
+
+abbrev pub requestWord : ℕ
+requestWord = removalHandleWord + 1
+
+abbrev pub countWord : ℕ
+countWord = requestWord + 1
+
+abbrev pub positionWord : ℕ
+positionWord = countWord + 1
+
+abbrev pub collectedWord : ℕ
+collectedWord = positionWord + 1
+
+abbrev pub firstAddressWord : ℕ
+firstAddressWord = collectedWord + 1
+
+abbrev pub firstSizeWord : ℕ
+firstSizeWord = firstAddressWord + mostRecords
+
+abbrev pub firstResultWord : ℕ
+firstResultWord = firstSizeWord + mostRecords
+
+abbrev pub stateWords : ℕ
+stateWords = firstResultWord + mostRecords
+
+-- the words of a removal, outstanding or not
+abbrev pub removalWords : ℕ
+removalWords = stateWords - outstandingWord
+
+-- channel c's own word
 abbrev pub readyAt : List ℕ → ℕ → ℕ
 readyAt s c = getD s c 0
 
--- service v of channel c is service k = c * 4 + v of the sixteen
+-- service v of channel c is at place k = c * 4 + v among the services of all channels
 abbrev pub placeOf : ℕ → ℕ → ℕ
-placeOf c v = c * 4 + v
+placeOf c v = c * serviceCount + v
 
--- the three words of service k
+-- the three words of the service at place k
 abbrev pub stageAt : List ℕ → ℕ → ℕ
-stageAt s k = getD s (4 + k * 3) 0
+stageAt s k = getD s (firstStageWord + k * serviceWords) 0
 
 abbrev pub handleAt : List ℕ → ℕ → ℕ
-handleAt s k = getD s (5 + k * 3) 0
+handleAt s k = getD s (firstHandleWord + k * serviceWords) 0
 
 abbrev pub minorAt : List ℕ → ℕ → ℕ
-minorAt s k = getD s (6 + k * 3) 0
+minorAt s k = getD s (firstMinorWord + k * serviceWords) 0
 
 abbrev pub blocksOf : List ℕ → ℕ
 blocksOf s = getD s blockCountWord 0
 
 abbrev pub lastOf : List ℕ → ℕ
-lastOf s = getD s 133 0
+lastOf s = getD s lastWord 0
 
 abbrev pub heldOf : List ℕ → ℕ
-heldOf s = getD s 134 0
+heldOf s = getD s heldWord 0
 
 abbrev pub outstandingOf : List ℕ → ℕ
-outstandingOf s = getD s 135 0
+outstandingOf s = getD s outstandingWord 0
 
 abbrev pub cancelledOf : List ℕ → ℕ
-cancelledOf s = getD s 136 0
+cancelledOf s = getD s cancelledWord 0
 
 -- five words for a block (01: "base, pages, first permanent page (counted from the base), permanent pages, configured (0 or 1)")
 pub record Block : Type 0 where
@@ -75,11 +237,11 @@ pub record Block : Type 0 where
 -- block i of those whose words stand in l from at on
 unfoldable pub blockIn : List ℕ → ℕ → ℕ → Block
 blockIn l at i = record {
-  base = getD l (at + i * 5) 0;
-  pages = getD l (at + i * 5 + 1) 0;
-  first = getD l (at + i * 5 + 2) 0;
-  permanent = getD l (at + i * 5 + 3) 0;
-  configured = getD l (at + i * 5 + 4) 0;
+  base = getD l (at + i * blockWords) 0;
+  pages = getD l (at + i * blockWords + pagesPlace) 0;
+  first = getD l (at + i * blockWords + firstPlace) 0;
+  permanent = getD l (at + i * blockWords + permanentPlace) 0;
+  configured = getD l (at + i * blockWords + configuredPlace) 0;
 }
 
 -- block i of the state
@@ -97,19 +259,22 @@ wordOf false = 0
 -- the removal that the words hold
 unfoldable pub removalOf : List ℕ → Removal
 removalOf s = record {
-  cancelled = isSet (getD s 136 0);
-  channel = getD s 137 0;
-  handle = getD s 138 0;
-  request = getD s 139 0;
-  count = getD s 140 0;
-  position = getD s 141 0;
-  collected = getD s 142 0;
-  address = tabulate (λ i. getD s (143 + i) 0) 16;
-  size = tabulate (λ i. getD s (159 + i) 0) 16;
-  result = tabulate (λ i. getD s (175 + i) 0) 16;
+  cancelled = isSet (getD s cancelledWord 0);
+  channel = getD s removalChannelWord 0;
+  handle = getD s removalHandleWord 0;
+  request = getD s requestWord 0;
+  count = getD s countWord 0;
+  position = getD s positionWord 0;
+  collected = getD s collectedWord 0;
+  address = tabulate (λ i. getD s (firstAddressWord + i) 0) mostRecords;
+  size = tabulate (λ i. getD s (firstSizeWord + i) 0) mostRecords;
+  result = tabulate (λ i. getD s (firstResultWord + i) 0) mostRecords;
 }
 
--- the first eight words of an outstanding removal
+-- the words of an outstanding removal before its records
+abbrev pub headWords : ℕ
+headWords = firstAddressWord - outstandingWord
+
 abbrev pub removalHead : Removal → List ℕ
 removalHead m =
     1 ∷ wordOf (m .cancelled) ∷ m .channel ∷ m .handle ∷ m .request ∷ m .count ∷ m .position ∷ m .collected ∷ []
@@ -118,20 +283,21 @@ removalHead m =
 
 -- a channel ready (1) or closed (0), and all its services idle
 unfoldable pub withChannel : List ℕ → ℕ → ℕ → List ℕ
-withChannel s c ready = sets (set s c ready) (4 + c * 12) (replicate 12 0)
+withChannel s c ready = sets (set s c ready) (firstStageWord + c * channelWords) (replicate channelWords 0)
 
 unfoldable pub withService : List ℕ → ℕ → ℕ → ℕ → ℕ → List ℕ
-withService s k stage handle minor = sets s (4 + k * 3) (stage ∷ handle ∷ minor ∷ [])
+withService s k stage handle minor = sets s (firstStageWord + k * serviceWords) (stage ∷ handle ∷ minor ∷ [])
 
 unfoldable pub withConfigured : List ℕ → ℕ → ℕ → List ℕ
-withConfigured s i flag = set s (53 + i * 5 + 4) flag
+withConfigured s i flag = set s (firstBlockWord + i * blockWords + configuredPlace) flag
 
 unfoldable pub withCounts : List ℕ → ℕ → ℕ → List ℕ
-withCounts s last held = sets s 133 (last ∷ held ∷ [])
+withCounts s last held = sets s lastWord (last ∷ held ∷ [])
 
 unfoldable pub withRemoval : List ℕ → Removal → List ℕ
-withRemoval s m = sets (sets (sets (sets s 135 (removalHead m)) 143 (m .address)) 159 (m .size)) 175 (m .result)
+withRemoval s m =
+    sets (sets (sets (sets s outstandingWord (removalHead m)) firstAddressWord (m .address)) firstSizeWord (m .size)) firstResultWord (m .result)
 
 -- no removal outstanding, and its words 0
 unfoldable pub withoutRemoval : List ℕ → List ℕ
-withoutRemoval s = sets s 135 (replicate 56 0)
+withoutRemoval s = sets s outstandingWord (replicate removalWords 0)

@@ -5,12 +5,13 @@ pub mod State
 pub mod Refusals
 pub mod Journal
 pub mod Messages
-pub mod Made
 pub mod Memory
 pub mod Work
 pub mod Calls
 pub mod Reading
 pub mod Demand3
 pub mod Kept
-pub mod Step
+pub mod Contracts
+pub mod Handler
 pub mod Day
+pub mod Encoding

@@ -7,12 +7,14 @@ use lib.ListN.{length, getD, replicate}
 use lib.Dec.{leb, ltb, eqb}
 use Rattle.wire.specs.BigEndian.{numberAt, bytesOf}
 use Rattle.model.specs.Choice.{pick, _and_, every, tabulate, joined}
+use Rattle.model.specs.declared.Found.{Found}
+use Rattle.model.specs.declared.Found.the-variants.{At, Nowhere}
 use Rattle.model.specs.declared.Removal.{Removal}
 use Rattle.model.specs.declared.Request.{Request}
 use Rattle.model.specs.declared.Request.the-variants.{Configure, Unconfigure, Query, Status, Cancel, Malformed}
-use Rattle.model.specs.Layout.{blockAt, outstandingOf, isSet, removalOf, withConfigured, withRemoval}
-use Rattle.model.specs.Blocks.{pageSize, namedBlock, isNamed}
-use Rattle.model.specs.Journal.{answeredEvent, configuredEvent, begunEvent, cancelledEvent}
+use Rattle.model.specs.Layout.{mostRecords, memoryHeaderBytes, pairBytes, blockAt, outstandingOf, isSet, removalOf, withConfigured, withRemoval}
+use Rattle.model.specs.Blocks.{pageSize, namedBlock}
+use Rattle.model.specs.Journal.{codeNone, codeError, codeBlocked, answeredEvent, configuredEvent, begunEvent, cancelledEvent}
 use Rattle.model.specs.Messages.{Effect, effect, dsData}
 
 -- Types of messages.
@@ -65,14 +67,14 @@ argumentOf b = numberAt b 4 4
 
 -- "the same req_num (0 if under 16 bytes)"
 unfoldable pub requestNumber : List ℕ → ℕ
-requestNumber b = pick (ltb (length b) 16) 0 (numberAt b 8 8)
+requestNumber b = pick (ltb (length b) memoryHeaderBytes) 0 (numberAt b 8 8)
 
 -- record i of a request: addr, size
 abbrev pub addrIn : List ℕ → ℕ → ℕ
-addrIn b i = numberAt b (16 + i * 16) 8
+addrIn b i = numberAt b (memoryHeaderBytes + i * pairBytes) 8
 
 abbrev pub sizeIn : List ℕ → ℕ → ℕ
-sizeIn b i = numberAt b (24 + i * 16) 8
+sizeIn b i = numberAt b (memoryHeaderBytes + 8 + i * pairBytes) 8
 
 -- "no pair twice"
 unfoldable pub pairsDiffer : List ℕ → Bool
@@ -84,18 +86,18 @@ pairsDiffer b =
 unfoldable pub hasRecords : List ℕ → Bool
 hasRecords b =
     leb 1 (argumentOf b)
-    and leb (argumentOf b) 16
-    and eqb (length b) (16 + argumentOf b * 16)
+    and leb (argumentOf b) mostRecords
+    and eqb (length b) (memoryHeaderBytes + argumentOf b * pairBytes)
     and pairsDiffer b
 
 -- "argument 0, nothing after"
 unfoldable pub hasNothing : List ℕ → Bool
-hasNothing b = eqb (argumentOf b) 0 and eqb (length b) 16
+hasNothing b = eqb (argumentOf b) 0 and eqb (length b) memoryHeaderBytes
 
 -- the request that a list of bytes is; "Anything else: ERROR"
 unfoldable pub requestOf : List ℕ → Request
 requestOf b =
-    pick (ltb (length b) 16) Malformed
+    pick (ltb (length b) memoryHeaderBytes) Malformed
     (pick (eqb (requestType b) DR-MEM-CONFIGURE and hasRecords b) (Configure (argumentOf b))
     (pick (eqb (requestType b) DR-MEM-UNCONFIGURE and hasRecords b) (Unconfigure (argumentOf b))
     (pick (eqb (requestType b) DR-MEM-QUERY and hasRecords b) (Query (argumentOf b))
@@ -109,25 +111,26 @@ memoryReply handle type argument request records =
     dsData handle (bytesOf 4 type ++ bytesOf 4 argument ++ bytesOf 8 request ++ records)
 
 -- "status after the request (0 unknown, 1 unconfigured, 2 configured)"
-unfoldable pub statusOf : List ℕ → ℕ → ℕ → ℕ
-statusOf s addr size =
-    pick (isNamed s addr size) (pick (eqb (blockAt s (namedBlock s addr size) .configured) 1) 2 1) 0
+unfoldable pub statusAt : List ℕ → Found → ℕ
+statusAt s (At i) = pick (eqb (blockAt s i .configured) 1) 2 1
+statusAt s Nowhere = 0
+
+abbrev pub statusOf : List ℕ → ℕ → ℕ → ℕ
+statusOf s addr size = statusAt s (namedBlock s addr size)
 
 -- "Result records have 28 bytes: addr, size, result, status after the request .., string offset 0."
 unfoldable pub resultRecord : List ℕ → ℕ → ℕ → ℕ → List ℕ
 resultRecord s addr size result =
     bytesOf 8 addr ++ bytesOf 8 size ++ bytesOf 4 result ++ bytesOf 4 (statusOf s addr size) ++ bytesOf 4 0
 
--- "An unknown block counts as wholly permanent": its permanent bytes, and the first permanent address
-unfoldable pub permanentBytes : List ℕ → ℕ → ℕ → ℕ
-permanentBytes s addr size =
-    pick (isNamed s addr size) (blockAt s (namedBlock s addr size) .permanent * pageSize) size
+-- the permanent bytes of the block that a pair names, and the first permanent address; "An unknown block counts as wholly permanent"
+unfoldable pub permanentBytes : List ℕ → ℕ → Found → ℕ
+permanentBytes s size (At i) = blockAt s i .permanent * pageSize
+permanentBytes s size Nowhere = size
 
-unfoldable pub permanentFirst : List ℕ → ℕ → ℕ → ℕ
-permanentFirst s addr size =
-    pick (isNamed s addr size)
-    (blockAt s (namedBlock s addr size) .base + blockAt s (namedBlock s addr size) .first * pageSize)
-    addr
+unfoldable pub permanentFirst : List ℕ → ℕ → Found → ℕ
+permanentFirst s addr (At i) = blockAt s i .base + blockAt s i .first * pageSize
+permanentFirst s addr Nowhere = addr
 
 -- "all three 0 if none. .. size, addr, addr + size − 1 wrapped at 2^64; size 0 gives three zeros."
 unfoldable pub permanentRange : ℕ → ℕ → List ℕ
@@ -139,7 +142,9 @@ permanentRange bytes first =
 -- "QUERY, 40 bytes a record: addr, size, permanent bytes, first and last permanent address (last byte)"
 unfoldable pub queryRecord : List ℕ → ℕ → ℕ → List ℕ
 queryRecord s addr size =
-    bytesOf 8 addr ++ bytesOf 8 size ++ permanentRange (permanentBytes s addr size) (permanentFirst s addr size)
+    bytesOf 8 addr
+    ++ bytesOf 8 size
+    ++ permanentRange (permanentBytes s size (namedBlock s addr size)) (permanentFirst s addr (namedBlock s addr size))
 
 -- a request that changes nothing, answered
 unfoldable pub answering : List ℕ → ℕ → ℕ → ℕ → List ℕ → Effect
@@ -147,12 +152,12 @@ answering s c code request reply = effect (answeredEvent c code request) s reply
 
 -- "ERROR 0x65, argument 0, the same req_num .., no more."
 unfoldable pub answeringError : List ℕ → ℕ → ℕ → ℕ → Effect
-answeringError s c handle request = answering s c 1 request (memoryReply handle DR-MEM-ERROR 0 request [])
+answeringError s c handle request = answering s c codeError request (memoryReply handle DR-MEM-ERROR 0 request [])
 
 -- "CONFIGURE or UNCONFIGURE while a removal is outstanding: every record BLOCKED (2)."
 unfoldable pub blocked : List ℕ → ℕ → ℕ → ℕ → List ℕ → ℕ → Effect
 blocked s c handle request b n =
-    answering s c 2 request
+    answering s c codeBlocked request
     (memoryReply handle DR-MEM-OK n request
     (joined (λ i. resultRecord s (addrIn b i) (sizeIn b i) DR-MEM-RES-BLOCKED) n))
 
@@ -187,15 +192,14 @@ oneUnchanged p = record {
   results = p .results ++ (DR-MEM-RES-NOWORK ∷ []);
 }
 
--- "unconfigured gives OK (0) and configures, configured gives NOWORK (4), unknown gives FAILURE (1) and so does every record after it"
+-- "unconfigured gives OK (0) and configures, configured gives NOWORK (4), unknown gives FAILURE (1)"
+unfoldable pub configureAt : Progress → Found → Progress
+configureAt p (At i) = pick (eqb (blockAt (p .state) i .configured) 0) (oneConfigured p i) (oneUnchanged p)
+configureAt p Nowhere = oneFailed p
+
+-- "and so does every record after it"
 unfoldable pub configureOne : Progress → ℕ → ℕ → Progress
-configureOne p addr size =
-    pick (p .failed) (oneFailed p)
-    (pick (isNamed (p .state) addr size)
-    (pick (eqb (blockAt (p .state) (namedBlock (p .state) addr size) .configured) 0)
-    (oneConfigured p (namedBlock (p .state) addr size))
-    (oneUnchanged p))
-    (oneFailed p))
+configureOne p addr size = pick (p .failed) (oneFailed p) (configureAt p (namedBlock (p .state) addr size))
 
 -- "CONFIGURE: in order": after the first n records
 unfoldable pub configuredBy : List ℕ → List ℕ → ℕ → Progress
@@ -211,12 +215,12 @@ configureReply p handle request b n =
 unfoldable pub answeringConfigure : Progress → ℕ → ℕ → ℕ → List ℕ → ℕ → Effect
 answeringConfigure p c handle request b n =
     pick (eqb (p .mask) 0)
-    (answering (p .state) c 0 request (configureReply p handle request b n))
+    (answering (p .state) c codeNone request (configureReply p handle request b n))
     (effect (configuredEvent c (p .mask)) (p .state) (configureReply p handle request b n))
 
 -- "UNCONFIGURE is begun; its reply comes from work."
-unfoldable pub begun : ℕ → ℕ → ℕ → List ℕ → ℕ → Removal
-begun c handle request b n = record {
+unfoldable pub newRemoval : ℕ → ℕ → ℕ → List ℕ → ℕ → Removal
+newRemoval c handle request b n = record {
   cancelled = false;
   channel = c;
   handle = handle;
@@ -224,18 +228,18 @@ begun c handle request b n = record {
   count = n;
   position = 0;
   collected = 0;
-  address = tabulate (λ i. addrIn b i) 16;
-  size = tabulate (λ i. sizeIn b i) 16;
-  result = replicate 16 0;
+  address = tabulate (λ i. addrIn b i) mostRecords;
+  size = tabulate (λ i. sizeIn b i) mostRecords;
+  result = replicate mostRecords 0;
 }
 
 unfoldable pub beginning : List ℕ → ℕ → ℕ → ℕ → List ℕ → ℕ → Effect
-beginning s c handle request b n = effect (begunEvent c n request) (withRemoval s (begun c handle request b n)) []
+beginning s c handle request b n = effect (begunEvent c n request) (withRemoval s (newRemoval c handle request b n)) []
 
 -- QUERY changes nothing
 unfoldable pub querying : List ℕ → ℕ → ℕ → ℕ → List ℕ → ℕ → Effect
 querying s c handle request b n =
-    answering s c 0 request
+    answering s c codeNone request
     (memoryReply handle DR-MEM-OK n request (joined (λ i. queryRecord s (addrIn b i) (sizeIn b i)) n))
 
 -- "STATUS: argument 0 if none is outstanding, else 1 and total (size of the record at the position) and collected bytes, both 0 once all
@@ -248,7 +252,7 @@ statusRecord m =
 
 unfoldable pub reporting : List ℕ → ℕ → ℕ → ℕ → Effect
 reporting s c handle request =
-    answering s c 0 request
+    answering s c codeNone request
     (pick (isSet (outstandingOf s))
     (memoryReply handle DR-MEM-OK 1 request (statusRecord (removalOf s)))
     (memoryReply handle DR-MEM-OK 0 request []))
@@ -275,7 +279,7 @@ cancelling s c handle request =
     (effect (cancelledEvent c request)
     (withRemoval s (marked (removalOf s)))
     (memoryReply handle DR-MEM-OK 0 request []))
-    (answering s c 0 request (memoryReply handle DR-MEM-OK 0 request []))
+    (answering s c codeNone request (memoryReply handle DR-MEM-OK 0 request []))
 
 unfoldable pub requested : List ℕ → ℕ → ℕ → ℕ → List ℕ → Request → Effect
 requested s c handle request b (Configure n) =

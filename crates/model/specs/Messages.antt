@@ -4,12 +4,17 @@ use Prim.Native.Nat.{ℕ, _+_, _-_, min}
 use mathlib.Core.Bool.{Bool, false, not}
 use mathlib.Core.List.{List, [], _∷_, _++_}
 use lib.ListN.{length, getD}
-use lib.Dec.{leb, ltb, eqb}
+use lib.Dec.{leb, eqb}
 use Rattle.wire.specs.BigEndian.{byteAt, numberAt, bytesOf}
-use Rattle.model.specs.Choice.{pick, _and_, every}
+use Rattle.model.specs.Choice.{pick, _and_, every, firstBelow}
+use Rattle.model.specs.declared.Found.{Found}
+use Rattle.model.specs.declared.Found.the-variants.{At, Nowhere}
+use Rattle.model.specs.declared.Route.{Route}
+use Rattle.model.specs.declared.Route.the-variants.{Memory, Host}
 use Rattle.model.specs.declared.Message.{Message}
 use Rattle.model.specs.declared.Message.the-variants.{InitReq, RegReq, RegAck, RegNack, Unreg, UnregAck, UnregNack, Data, Nack, Bad}
-use Rattle.model.specs.Layout.{placeOf, stageAt, handleAt, lastOf, withChannel, withService}
+use Rattle.model.specs.Layout.{serviceCount, memoryService, dsHeaderBytes, stageIdle, stageOffered, stageRegistered, placeOf, stageAt, handleAt, lastOf, withChannel, withService}
+use Rattle.model.specs.State.{ourHandle}
 use Rattle.model.specs.declared.Event.{Event}
 use Rattle.model.specs.Journal.{readyEvent, closedEvent, versionRefusedEvent, offeredEvent, registeredEvent, offerRefusedEvent, serviceEndedEvent, notedEvent}
 
@@ -40,6 +45,10 @@ noService = record { id = []; major = 0; minor = 0 }
 
 abbrev pub serviceOf : ℕ → Service
 serviceOf v = getD services v noService
+
+-- "Service 0 is answered inside; data for the others goes to the host."
+unfoldable pub route : ℕ → Route
+route v = pick (eqb v memoryService) Memory Host
 
 -- Types of messages.
 abbrev pub DS-INIT-REQ : ℕ
@@ -129,9 +138,13 @@ dsData handle payload = dsMessage DS-DATA (bytesOf 8 handle ++ payload)
 unfoldable pub nack : ℕ → ℕ → List ℕ
 nack handle result = dsMessage DS-NACK (bytesOf 8 handle ++ bytesOf 8 result)
 
+-- "payload_len is at most 4,096"
+abbrev pub mostPayload : ℕ
+mostPayload = 4096
+
 -- "it has 8 + payload_len bytes, payload_len is at most 4,096"
 unfoldable pub wholeMessage : List ℕ → Bool
-wholeMessage m = eqb (length m) (8 + payloadLength m) and leb (payloadLength m) 4096
+wholeMessage m = eqb (length m) (dsHeaderBytes + payloadLength m) and leb (payloadLength m) mostPayload
 
 -- REG_REQ: "13 to 1,036, its last byte the only zero of the id"; the id is the payload from byte 12 on
 unfoldable pub idFits : List ℕ → Bool
@@ -171,7 +184,8 @@ decodedByType m =
     (pick (eqb (typeOf m) DS-UNREG-ACK) UnregAck
     (pick (eqb (typeOf m) DS-UNREG-NACK) UnregNack
     (pick (eqb (typeOf m) DS-DATA) (Data (numberAt m 8 8))
-    Nack)))))))
+    (pick (eqb (typeOf m) DS-NACK) Nack
+    Bad))))))))
 
 -- the message that a list of bytes is
 unfoldable pub decoded : List ℕ → Message
@@ -186,18 +200,38 @@ pub record Effect : Type 0 where
 abbrev pub effect : Event → List ℕ → List ℕ → Effect
 effect e s reply = record { event = e; state = s; reply = reply }
 
--- "Handles below are those of this channel": service v of channel c is at a stage (1 offered, 2 registered), or live, under the handle h
+-- "Handles below are those of this channel": service v of channel c is at a stage, or live, under the handle h
 abbrev pub stagedAs : List ℕ → ℕ → ℕ → ℕ → ℕ → Bool
 stagedAs s c h stage v = eqb (stageAt s (placeOf c v)) stage and eqb (handleAt s (placeOf c v)) h
 
 abbrev pub offeredAs : List ℕ → ℕ → ℕ → ℕ → Bool
-offeredAs s c h v = stagedAs s c h 1 v
+offeredAs s c h v = stagedAs s c h stageOffered v
 
 abbrev pub registeredAs : List ℕ → ℕ → ℕ → ℕ → Bool
-registeredAs s c h v = stagedAs s c h 2 v
+registeredAs s c h v = stagedAs s c h stageRegistered v
 
 abbrev pub liveAs : List ℕ → ℕ → ℕ → ℕ → Bool
-liveAs s c h v = not (eqb (stageAt s (placeOf c v)) 0) and eqb (handleAt s (placeOf c v)) h
+liveAs s c h v = not (eqb (stageAt s (placeOf c v)) stageIdle) and eqb (handleAt s (placeOf c v)) h
+
+-- the channel's service that is, if there is one
+abbrev pub offeredFor : List ℕ → ℕ → ℕ → Found
+offeredFor s c h = firstBelow serviceCount (offeredAs s c h)
+
+abbrev pub registeredFor : List ℕ → ℕ → ℕ → Found
+registeredFor s c h = firstBelow serviceCount (registeredAs s c h)
+
+abbrev pub liveFor : List ℕ → ℕ → ℕ → Found
+liveFor s c h = firstBelow serviceCount (liveAs s c h)
+
+-- a service's change of stage; an idle one has no handle and no minor
+abbrev pub withIdle : List ℕ → ℕ → ℕ → List ℕ
+withIdle s c v = withService s (placeOf c v) stageIdle 0 0
+
+abbrev pub withOffered : List ℕ → ℕ → ℕ → ℕ → List ℕ
+withOffered s c v handle = withService s (placeOf c v) stageOffered handle 0
+
+abbrev pub withRegistered : List ℕ → ℕ → ℕ → ℕ → ℕ → List ℕ
+withRegistered s c v handle minor = withService s (placeOf c v) stageRegistered handle minor
 
 -- the services of a channel become idle, and it is closed (by 0 the host, 1 a message)
 unfoldable pub closing : List ℕ → ℕ → ℕ → Effect
@@ -216,34 +250,30 @@ initiated s c major =
     (effect (versionRefusedEvent c major) (withChannel s c 0) (initNack (pick (eqb major 0) 0 1)))
 
 -- "REG_ACK for an offered handle registers it with the lower of the two minors .. Any other of these is only noted."
-unfoldable pub acknowledged : List ℕ → ℕ → ℕ → ℕ → ℕ → Effect
-acknowledged s c handle minor v =
-    pick (ltb v 4)
-    (effect (registeredEvent c v (min (serviceOf v .minor) minor) handle)
-    (withService s (placeOf c v) 2 handle (min (serviceOf v .minor) minor))
-    [])
-    (noting s c DS-REG-ACK [])
+unfoldable pub acknowledged : List ℕ → ℕ → ℕ → ℕ → Found → Effect
+acknowledged s c handle minor (At v) =
+    effect (registeredEvent c v (min (serviceOf v .minor) minor) handle)
+    (withRegistered s c v handle (min (serviceOf v .minor) minor))
+    []
+acknowledged s c handle minor Nowhere = noting s c DS-REG-ACK []
 
 -- "REG_NACK for an offered handle makes it idle."
-unfoldable pub notAcknowledged : List ℕ → ℕ → ℕ → Effect
-notAcknowledged s c v =
-    pick (ltb v 4)
-    (effect (offerRefusedEvent c v) (withService s (placeOf c v) 0 0 0) [])
-    (noting s c DS-REG-NACK [])
+unfoldable pub notAcknowledged : List ℕ → ℕ → Found → Effect
+notAcknowledged s c (At v) = effect (offerRefusedEvent c v) (withIdle s c v) []
+notAcknowledged s c Nowhere = noting s c DS-REG-NACK []
 
 -- "UNREG from the peer for a live handle (offered or registered) does so and replies UNREG_ACK, else UNREG_NACK."
-unfoldable pub unregistered : List ℕ → ℕ → ℕ → ℕ → Effect
-unregistered s c handle v =
-    pick (ltb v 4)
-    (effect (serviceEndedEvent c v) (withService s (placeOf c v) 0 0 0) (unregAck handle))
-    (noting s c DS-UNREG (unregNack handle))
+unfoldable pub unregistered : List ℕ → ℕ → ℕ → Found → Effect
+unregistered s c handle (At v) = effect (serviceEndedEvent c v) (withIdle s c v) (unregAck handle)
+unregistered s c handle Nowhere = noting s c DS-UNREG (unregNack handle)
 
 -- "Offer sends REG_REQ with the id and its zero. The handle is the number of the offer's own entry, so none is used twice."
 unfoldable pub offering : List ℕ → ℕ → ℕ → Effect
 offering s c v =
-    effect (offeredEvent c v) (withService s (placeOf c v) 1 (lastOf s + 1) 0) (regReq (lastOf s + 1) (serviceOf v))
+    effect (offeredEvent c v)
+    (withOffered s c v (ourHandle (lastOf s + 1)))
+    (regReq (ourHandle (lastOf s + 1)) (serviceOf v))
 
 -- "Withdraw sends UNREG and makes the service idle at once."
 unfoldable pub withdrawing : List ℕ → ℕ → ℕ → Effect
-withdrawing s c v =
-    effect (serviceEndedEvent c v) (withService s (placeOf c v) 0 0 0) (unreg (handleAt s (placeOf c v)))
+withdrawing s c v = effect (serviceEndedEvent c v) (withIdle s c v) (unreg (handleAt s (placeOf c v)))

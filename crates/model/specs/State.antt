@@ -1,7 +1,7 @@
--- "A state is sound if ..". Beyond 01's sentence a word that means nothing (a stage of 3, a flag of 2, a minor above 65,535, an idle
--- service with a handle or minor, an offered one with a minor, a settled record with another result than OK or NOWORK) makes a state not
--- sound. Words without a meaning in the present state (blocks past the count, a removal's words while none is outstanding, its records past the count, results
--- from the position on) are free.
+-- "A state is sound if ..". Beyond 01's sentence a word that no reading could mean (a flag above 1, a stage above 2, a registered minor
+-- above 65,535, a settled record's result other than OK or NOWORK) makes a state not sound. Words without a meaning in the present state (an idle
+-- service's handle and minor, an offered one's minor, blocks past the count, a removal's words while none is outstanding, its records past
+-- the count, results from the position on) are free.
 -- Assumes nothing.
 use Prim.Native.Nat.{ℕ, _/_}
 use mathlib.Core.Bool.{Bool, not}
@@ -9,34 +9,46 @@ use mathlib.Core.List.{List}
 use lib.ListN.{getD}
 use lib.Dec.{ltb, leb, eqb}
 use Rattle.model.specs.Choice.{pick, _and_, _or_, every}
+use Rattle.model.specs.declared.Found.{Found}
+use Rattle.model.specs.declared.Found.the-variants.{At, Nowhere}
 use Rattle.model.specs.declared.Removal.{Removal}
-use Rattle.model.specs.Layout.{readyAt, stageAt, handleAt, minorAt, firstBlockWord, blocksOf, blockAt, lastOf, heldOf, outstandingOf, cancelledOf, removalOf}
-use Rattle.model.specs.Blocks.{blocksKeep, namedBlock, isNamed}
+use Rattle.model.specs.Layout.{channelCount, serviceCount, placeCount, mostRecords, mostHeld, highestNumber, highestMinor, stageIdle, stageOffered, stageRegistered, readyAt, stageAt, handleAt, minorAt, firstBlockWord, blocksOf, blockAt, lastOf, heldOf, outstandingOf, cancelledOf, removalOf}
+use Rattle.model.specs.Blocks.{blocksKeep, namedBlock}
+
+-- "The handle is the number of the offer's own entry": our handle of entry n
+abbrev pub ourHandle : ℕ → ℕ
+ourHandle n = n
+
+-- a handle may be one of ours: it is none below that of entry `first` and none above that of entry `last` (a removal's may be 0)
+unfoldable pub isOurs : ℕ → ℕ → ℕ → Bool
+isOurs first last handle = leb (ourHandle first) handle and leb handle (ourHandle last)
 
 -- "services on closed channels are idle; live handles .. lie between 1 and the last entry number used"
 unfoldable pub serviceSound : ℕ → ℕ → ℕ → ℕ → ℕ → Bool
 serviceSound stage handle minor ready last =
-    pick (eqb stage 0)
-    (eqb handle 0 and eqb minor 0)
-    (leb stage 2
+    eqb stage stageIdle
+    or (leb stage stageRegistered
     and eqb ready 1
-    and leb 1 handle
-    and leb handle last
-    and pick (eqb stage 1) (eqb minor 0) (leb minor 65535))
+    and isOurs 1 last handle
+    and (eqb stage stageOffered or leb minor highestMinor))
 
 abbrev pub serviceSoundAt : List ℕ → ℕ → Bool
-serviceSoundAt s k = serviceSound (stageAt s k) (handleAt s k) (minorAt s k) (readyAt s (k / 4)) (lastOf s)
+serviceSoundAt s k =
+    serviceSound (stageAt s k) (handleAt s k) (minorAt s k) (readyAt s (k / serviceCount)) (lastOf s)
 
--- "live handles differ": service k's from those of the services before it; an idle service has handle 0
+-- "live handles differ": the service's at place k from those of the live services before it
 unfoldable pub handleApart : List ℕ → ℕ → Bool
-handleApart s k = eqb (handleAt s k) 0 or every k (λ j. not (eqb (handleAt s j) (handleAt s k)))
+handleApart s k =
+    eqb (stageAt s k) stageIdle
+    or every k (λ j. eqb (stageAt s j) stageIdle or not (eqb (handleAt s j) (handleAt s k)))
 
 -- the pages of the configured block that a pair names, 0 if there is none
-unfoldable pub roomOf : List ℕ → ℕ → ℕ → ℕ
-roomOf s addr size =
-    pick (isNamed s addr size and eqb (blockAt s (namedBlock s addr size) .configured) 1)
-    (blockAt s (namedBlock s addr size) .pages)
-    0
+unfoldable pub roomAt : List ℕ → Found → ℕ
+roomAt s (At i) = pick (eqb (blockAt s i .configured) 1) (blockAt s i .pages) 0
+roomAt s Nowhere = 0
+
+abbrev pub roomOf : List ℕ → ℕ → ℕ → ℕ
+roomOf s addr size = roomAt s (namedBlock s addr size)
 
 -- those of the pair at the removal's position
 unfoldable pub removalRoom : List ℕ → Removal → ℕ
@@ -48,16 +60,19 @@ unfoldable pub collectedSound : ℕ → ℕ → Bool
 collectedSound collected room = pick (eqb room 0) (eqb collected 0) (ltb collected room)
 
 -- "for each settled record OK or NOWORK"
+unfoldable pub resultSound : ℕ → Bool
+resultSound result = eqb result 0 or eqb result 4
+
 unfoldable pub resultsSound : Removal → Bool
-resultsSound m = every (m .position) (λ i. eqb (getD (m .result) i 0) 0 or eqb (getD (m .result) i 0) 4)
+resultsSound m = every (m .position) (λ i. resultSound (getD (m .result) i 0))
 
 -- "a removal has a channel to 3, a handle up to that last number, 1 to 16 records, a position up to their count, and pages collected .."
 unfoldable pub removalSound : List ℕ → ℕ → Removal → Bool
 removalSound s last m =
-    leb (m .channel) 3
-    and leb (m .handle) last
+    ltb (m .channel) channelCount
+    and isOurs 0 last (m .handle)
     and leb 1 (m .count)
-    and leb (m .count) 16
+    and leb (m .count) mostRecords
     and leb (m .position) (m .count)
     and collectedSound (m .collected) (removalRoom s m)
     and resultsSound m
@@ -72,10 +87,10 @@ outstandingSound s =
 unfoldable pub sound : List ℕ → Bool
 sound s =
     blocksKeep s firstBlockWord (blocksOf s)
-    and every 4 (λ c. leb (readyAt s c) 1)
-    and every 16 (λ k. serviceSoundAt s k)
-    and every 16 (λ k. handleApart s k)
-    and leb (lastOf s) 4294967295
-    and leb (heldOf s) 64
+    and every channelCount (λ c. leb (readyAt s c) 1)
+    and every placeCount (λ k. serviceSoundAt s k)
+    and every placeCount (λ k. handleApart s k)
+    and leb (lastOf s) highestNumber
+    and leb (heldOf s) mostHeld
     and leb (heldOf s) (lastOf s)
     and outstandingSound s

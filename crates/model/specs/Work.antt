@@ -1,14 +1,16 @@
--- "Each work step does one thing": the work step and the late reply.
+-- "Each work step does one thing": the work step, the pages that it moves, and the late reply.
 -- Assumes nothing.
 use Prim.Native.Nat.{ℕ, _+_, _-_, min}
-use mathlib.Core.Bool.{Bool, not}
+use mathlib.Core.Bool.{Bool}
 use mathlib.Core.List.{List, []}
 use lib.ListN.{getD, set}
 use lib.Dec.{leb, ltb, eqb}
 use Rattle.model.specs.Choice.{pick, _or_, joined}
+use Rattle.model.specs.declared.Found.{Found}
+use Rattle.model.specs.declared.Found.the-variants.{At, Nowhere}
 use Rattle.model.specs.declared.Removal.{Removal}
-use Rattle.model.specs.Layout.{blockAt, removalOf, withConfigured, withRemoval, withoutRemoval}
-use Rattle.model.specs.Blocks.{namedBlock, isNamed}
+use Rattle.model.specs.Layout.{memoryService, blockAt, removalOf, withConfigured, withRemoval, withoutRemoval}
+use Rattle.model.specs.Blocks.{namedBlock}
 use Rattle.model.specs.Journal.{collectedEvent, settledEvent, removalEndEvent}
 use Rattle.model.specs.Messages.{Effect, effect, registeredAs}
 use Rattle.model.specs.Memory.{DR-MEM-OK, DR-MEM-RES-OK, DR-MEM-RES-FAILURE, DR-MEM-RES-CANCELLED, DR-MEM-RES-NOWORK, DR-MEM-RES-PERM, memoryReply, resultRecord}
@@ -21,26 +23,20 @@ abbrev pub sizeNow : Removal → ℕ
 sizeNow m = getD (m .size) (m .position) 0
 
 -- the block that it names
-abbrev pub blockNow : List ℕ → Removal → ℕ
+abbrev pub blockNow : List ℕ → Removal → Found
 blockNow s m = namedBlock s (addrNow m) (sizeNow m)
-
-abbrev pub isKnown : List ℕ → Removal → Bool
-isKnown s m = isNamed s (addrNow m) (sizeNow m)
 
 abbrev pub allSettled : Removal → Bool
 allSettled m = leb (m .count) (m .position)
 
--- "If cancelled, or all records are settled, or the record at the position is unknown or has permanent pages: end and reply."
-unfoldable pub ends : List ℕ → Removal → Bool
-ends s m =
-    m .cancelled or allSettled m or not (isKnown s m) or not (eqb (blockAt s (blockNow s m) .permanent) 0)
-
 -- kind 16's code: "3 if cancelled, else the failing record's 1 or 5, else 0"
+unfoldable pub failingCode : Found → ℕ
+failingCode (At i) = DR-MEM-RES-PERM
+failingCode Nowhere = DR-MEM-RES-FAILURE
+
 unfoldable pub endCode : List ℕ → Removal → ℕ
 endCode s m =
-    pick (m .cancelled) DR-MEM-RES-CANCELLED
-    (pick (allSettled m) DR-MEM-RES-OK
-    (pick (isKnown s m) DR-MEM-RES-PERM DR-MEM-RES-FAILURE))
+    pick (m .cancelled) DR-MEM-RES-CANCELLED (pick (allSettled m) DR-MEM-RES-OK (failingCode (blockNow s m)))
 
 -- "At the end, if cancelled, all from the position on have CANCELLED (3); otherwise the failing record has FAILURE (unknown) or PERM (5),
 -- those after it FAILURE."
@@ -57,7 +53,7 @@ lateReply s m =
 
 -- "If the handle isn't registered on its channel for service 0 any more, no reply is written."
 abbrev pub stillRegistered : List ℕ → Removal → Bool
-stillRegistered s m = registeredAs s (m .channel) (m .handle) 0
+stillRegistered s m = registeredAs s (m .channel) (m .handle) memoryService
 
 unfoldable pub ending : List ℕ → Removal → Effect
 ending s m =
@@ -95,30 +91,48 @@ collecting m n = record {
   result = m .result;
 }
 
--- "Else collect the lesser of the budget and what remains; when none remains the block becomes unconfigured and is settled OK."
-unfoldable pub pagesMoved : List ℕ → Removal → ℕ → ℕ
-pagesMoved s m budget = min budget (blockAt s (blockNow s m) .pages - m .collected)
+-- What a work step does, and the pages that it moves.
+pub record WorkStep : Type 0 where
+  pub effects : Effect
+  pub pages : ℕ
 
-unfoldable pub collects : List ℕ → Removal → ℕ → Effect
-collects s m n =
-    pick (eqb (m .collected + n) (blockAt s (blockNow s m) .pages))
-    (effect (settledEvent (m .channel) (m .position) DR-MEM-RES-OK n (blockNow s m))
-    (withRemoval (withConfigured s (blockNow s m) 0) (settled m DR-MEM-RES-OK))
+abbrev pub moving : ℕ → Effect → WorkStep
+moving n e = record { effects = e; pages = n }
+
+-- "Else collect the lesser of the budget and what remains": of block i
+unfoldable pub pagesMoved : List ℕ → Removal → ℕ → ℕ → ℕ
+pagesMoved s m i budget = min budget (blockAt s i .pages - m .collected)
+
+-- "when none remains the block becomes unconfigured and is settled OK"
+unfoldable pub collects : List ℕ → Removal → ℕ → ℕ → Effect
+collects s m i n =
+    pick (eqb (m .collected + n) (blockAt s i .pages))
+    (effect (settledEvent (m .channel) (m .position) DR-MEM-RES-OK n i)
+    (withRemoval (withConfigured s i 0) (settled m DR-MEM-RES-OK))
     [])
     (effect (collectedEvent (m .channel) n) (withRemoval s (collecting m n)) [])
 
 -- "Else, if its block is unconfigured: settle NOWORK."
-unfoldable pub worksOn : List ℕ → Removal → ℕ → Effect
-worksOn s m budget =
-    pick (eqb (blockAt s (blockNow s m) .configured) 0)
-    (effect (settledEvent (m .channel) (m .position) DR-MEM-RES-NOWORK 0 (blockNow s m))
+unfoldable pub worksOn : List ℕ → Removal → ℕ → ℕ → WorkStep
+worksOn s m i budget =
+    pick (eqb (blockAt s i .configured) 0)
+    (moving 0
+    (effect (settledEvent (m .channel) (m .position) DR-MEM-RES-NOWORK 0 i)
     (withRemoval s (settled m DR-MEM-RES-NOWORK))
-    [])
-    (collects s m (pagesMoved s m budget))
+    []))
+    (moving (pagesMoved s m i budget) (collects s m i (pagesMoved s m i budget)))
 
-unfoldable pub stepOf : List ℕ → Removal → ℕ → Effect
-stepOf s m budget = pick (ends s m) (ending s m) (worksOn s m budget)
+-- "or the record at the position is unknown or has permanent pages"
+unfoldable pub worksAt : List ℕ → Removal → ℕ → Found → WorkStep
+worksAt s m budget (At i) =
+    pick (eqb (blockAt s i .permanent) 0) (worksOn s m i budget) (moving 0 (ending s m))
+worksAt s m budget Nowhere = moving 0 (ending s m)
+
+-- "If cancelled, or all records are settled, or ..: end and reply."
+unfoldable pub stepOf : List ℕ → Removal → ℕ → WorkStep
+stepOf s m budget =
+    pick (m .cancelled or allSettled m) (moving 0 (ending s m)) (worksAt s m budget (blockNow s m))
 
 -- the work step with a budget of pages
-unfoldable pub working : List ℕ → ℕ → Effect
+abbrev pub working : List ℕ → ℕ → WorkStep
 working s budget = stepOf s (removalOf s) budget

@@ -1,20 +1,15 @@
--- Which messages are heard, and what is made of each.
+-- The messages that are heard, and those that go to the host, by their cases.
 -- Assumes nothing.
 use mathlib.Core.Path.{_≡_, refl}
-use mathlib.Core.Bool.{Bool}
+use mathlib.Core.Bool.{Bool, false}
 use mathlib.Core.List.{List, [], _∷_}
 use Prim.Native.Nat.{ℕ}
 use types.Run.{OneOf, miss}
 use denote.Enum.Declared.{tagOf}
-use Rattle.wire.specs.BigEndian.{written}
 use Rattle.model.proofs.Message.{the-type}
-use Rattle.model.specs.declared.Made.{Made}
 use Rattle.model.specs.declared.Message.{Message}
 use Rattle.model.specs.declared.Message.the-variants.{InitReq, RegReq, RegAck, RegNack, Unreg, UnregAck, UnregNack, Data, Nack, Bad}
-use Rattle.model.specs.Messages.{Effect}
-use Rattle.model.specs.Made.{Makes}
-use Rattle.model.specs.Calls.{hears}
-use Rattle.protocol.specs.Silent.{MakesSilently}
+use Rattle.model.specs.Calls.{hears, toHost}
 
 -- every case but INIT_REQ and badly formed messages
 pub hears-others : (ready : Bool) (x : Message) → OneOf (1 ∷ 2 ∷ 3 ∷ 4 ∷ 5 ∷ 6 ∷ 7 ∷ 8 ∷ []) (tagOf the-type x) → ready ≡ hears ready x
@@ -30,14 +25,16 @@ hears-others ready (Data handle) k = refl
 hears-others ready Nack k = refl
 hears-others ready Bad k = absurd (miss (1 ∷ 2 ∷ 3 ∷ 4 ∷ 5 ∷ 6 ∷ 7 ∷ 8 ∷ []) 9 tt k)
 
--- what is made without a reply leaves the output
-pub silent : {e : Effect} {r : Made} {s′ : List ℕ} (out : List ℕ) → MakesSilently e r s′ → Makes e out r s′ out
-unfolding written
-silent out m =
-    let q = m .noReply in
-    record {
-      size = rw q (m .size);
-      notes = m .notes;
-      state = m .state;
-      output = rw q;
-    }
+-- every case but DATA
+pub others-stay : (s : List ℕ) (c : ℕ) (x : Message) → OneOf (0 ∷ 1 ∷ 2 ∷ 3 ∷ 4 ∷ 5 ∷ 6 ∷ 8 ∷ 9 ∷ []) (tagOf the-type x) → false ≡ toHost s c x
+unfolding toHost
+others-stay s c (InitReq major) k = refl
+others-stay s c (RegReq handle) k = refl
+others-stay s c (RegAck handle minor) k = refl
+others-stay s c (RegNack handle) k = refl
+others-stay s c (Unreg handle) k = refl
+others-stay s c UnregAck k = refl
+others-stay s c UnregNack k = refl
+others-stay s c (Data handle) k = absurd (miss (0 ∷ 1 ∷ 2 ∷ 3 ∷ 4 ∷ 5 ∷ 6 ∷ 8 ∷ 9 ∷ []) 7 tt k)
+others-stay s c Nack k = refl
+others-stay s c Bad k = refl

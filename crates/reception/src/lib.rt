@@ -1,25 +1,24 @@
-// What a message received does: which channels hear it, and to which handler it goes.
-use model::Event;
-use model::Made;
+// What a message received does: which channels hear it, and to which handler it goes; and the part of it that the host is shown.
+use model::DS_INV_HDL;
+use model::DS_NACK;
+use model::DS_UNREG_ACK;
+use model::DS_UNREG_NACK;
+use model::Found;
+use model::Handled;
 use model::Message;
+use model::REGISTERED;
+use model::Route;
 use model::State;
 ghost use mathlib.Core.Path.{_≡_};
 ghost use mathlib.Core.Bool.{true};
 ghost use Prim.Native.Nat.{_≤_, _<_};
 ghost use lib.ListN.{length};
-ghost use Rattle.model.specs.Choice.{firstOf};
+ghost use Rattle.model.specs.declared.Found.the-variants.{At, Nowhere};
+ghost use Rattle.model.specs.Layout.{channelCount, outputBytes};
 ghost use Rattle.model.specs.State.{sound};
-ghost use Rattle.model.specs.Messages.{registeredAs};
-ghost use Rattle.model.specs.Made.{Makes};
-ghost use Rattle.model.specs.Calls.{dataFor, heard, receiving};
-
-const DS_UNREG_ACK: u64 = 0x7;
-
-const DS_UNREG_NACK: u64 = 0x8;
-
-const DS_NACK: u64 = 0xa;
-
-const DS_INV_HDL: u64 = 3;
+ghost use Rattle.model.specs.Messages.{decoded, registeredFor};
+ghost use Rattle.model.specs.Calls.{dataFor, heard, receiving, isHost, goesToHost, toHost};
+ghost use Rattle.model.specs.Handler.{Handles};
 
 // Whether a channel hears a message: INIT_REQ at any time, any other well-formed message if it is ready.
 fn hears(ready: bool, message: Message) -> bool
@@ -32,57 +31,83 @@ fn hears(ready: bool, message: Message) -> bool
     }
 }
 
-// DATA: to the memory service, to the host, or refused.
-fn take_data(state: &mut State, channel: usize, handle: u64, payload: &[u8], out: &mut [u8]) -> Made
-    requires { ⌜ (sound (now state) ≡ true) × (channel < 4) × (672 ≤ length (now out)) ⌝ }
-    ensures { λ r. ⌜ Makes (dataFor (now (state .entry)) channel handle (now (payload .entry)) (firstOf (registeredAs (now (state .entry)) channel handle))) (now (out .entry)) r (now (state .exit)) (now (out .exit)) ⌝ }
+// Data for a registered service: to the memory service, or to the host.
+fn deliver(
+    state: &mut State,
+    channel: usize,
+    service: usize,
+    handle: u64,
+    payload: &[u8],
+    out: &mut [u8],
+) -> Handled
+    requires { ⌜ (sound (now state) ≡ true) × (outputBytes ≤ length (now out)) ⌝ }
+    ensures { λ r. ⌜ Handles (dataFor (now (state .entry)) channel handle (now (payload .entry)) (At service)) (now (out .entry)) (r .length) (r .event) (now (state .exit)) (now (out .exit)) ⌝ }
 {
-    let service = state::find_staged(state, channel, handle, 2);
-    if service == 0 {
-        return memory::answer(state, channel as u64, handle, payload, out);
-    }
-    if service < 4 {
-        return Made {
+    let route = services::route(service);
+    match route {
+        Route::Memory => memory::answer(state, channel as u64, handle, payload, out),
+        Route::Host => Handled {
             length: 0,
-            event: Event {
-                kind: 8,
-                channel: channel as u64,
-                service: service as u64,
-                record: 0,
-                code: 0,
-                count: 0,
-                word: 0,
-            },
-        };
-    }
-    let length = services::put_nack(out, handle, DS_INV_HDL);
-    Made {
-        length: length,
-        event: Event {
-            kind: 9,
-            channel: channel as u64,
-            service: 0,
-            record: 0,
-            code: 0,
-            count: 0,
-            word: handle,
+            event: events::delivered(channel as u64, service as u64),
         },
     }
 }
 
+// "Otherwise the reply is NACK with the handle and result 3."
+fn refuse_data(
+    state: &State,
+    channel: usize,
+    handle: u64,
+    payload: &[u8],
+    out: &mut [u8],
+) -> Handled
+    requires { ⌜ outputBytes ≤ length (now out) ⌝ }
+    ensures { λ r. ⌜ Handles (dataFor (now (state .entry)) channel handle (now (payload .entry)) Nowhere) (now (out .entry)) (r .length) (r .event) (now (state .entry)) (now (out .exit)) ⌝ }
+{
+    let length = services::put_nack(out, handle, DS_INV_HDL);
+    Handled {
+        length: length,
+        event: events::data_refused(channel as u64, handle),
+    }
+}
+
+// DATA: "whose handle is registered on this channel reaches that service".
+fn take_data(
+    state: &mut State,
+    channel: usize,
+    handle: u64,
+    payload: &[u8],
+    out: &mut [u8],
+) -> Handled
+    requires { ⌜ (sound (now state) ≡ true) × (channel < channelCount) × (outputBytes ≤ length (now out)) ⌝ }
+    ensures { λ r. ⌜ Handles (dataFor (now (state .entry)) channel handle (now (payload .entry)) (registeredFor (now (state .entry)) channel handle)) (now (out .entry)) (r .length) (r .event) (now (state .exit)) (now (out .exit)) ⌝ }
+{
+    let found = state::find_staged(state, channel, handle, REGISTERED);
+    match found {
+        Found::At { place } => deliver(state, channel, place, handle, payload, out),
+        Found::Nowhere => refuse_data(state, channel, handle, payload, out),
+    }
+}
+
 // What a message does on a channel that hears it.
-fn hear(state: &mut State, channel: usize, message: &[u8], decoded: Message, out: &mut [u8]) -> Made
-    requires { ⌜ (sound (now state) ≡ true) × (channel < 4) × (672 ≤ length (now out)) × (decoded ≡ Rattle.model.specs.Messages.decoded (now message)) ⌝ }
-    ensures { λ r. ⌜ Makes (heard (now (state .entry)) channel (now (message .entry)) decoded) (now (out .entry)) r (now (state .exit)) (now (out .exit)) ⌝ }
+fn hear(
+    state: &mut State,
+    channel: usize,
+    message: &[u8],
+    decoded: Message,
+    out: &mut [u8],
+) -> Handled
+    requires { ⌜ (sound (now state) ≡ true) × (channel < channelCount) × (outputBytes ≤ length (now out)) × (decoded ≡ Rattle.model.specs.Messages.decoded (now message)) ⌝ }
+    ensures { λ r. ⌜ Handles (heard (now (state .entry)) channel (now (message .entry)) decoded) (now (out .entry)) (r .length) (r .event) (now (state .exit)) (now (out .exit)) ⌝ }
 {
     match decoded {
         Message::InitReq { major } => protocol::initiate(state, channel, major, out),
         Message::RegReq { handle } => protocol::refuse_registration(state, channel, handle, out),
         Message::RegAck { handle, minor } => protocol::acknowledge(state, channel, handle, minor),
-        Message::RegNack { handle } => protocol::end_offer(state, channel, handle),
+        Message::RegNack { handle } => protocol::not_acknowledge(state, channel, handle),
         Message::Unreg { handle } => protocol::unregister(state, channel, handle, out),
-        Message::UnregAck => protocol::note(state, channel, DS_UNREG_ACK),
-        Message::UnregNack => protocol::note(state, channel, DS_UNREG_NACK),
+        Message::UnregAck => protocol::only_noted(state, channel, DS_UNREG_ACK),
+        Message::UnregNack => protocol::only_noted(state, channel, DS_UNREG_NACK),
         Message::Data { handle } => take_data(
             state,
             channel,
@@ -90,20 +115,55 @@ fn hear(state: &mut State, channel: usize, message: &[u8], decoded: Message, out
             messages::payload(message),
             out,
         ),
-        Message::Nack => protocol::note(state, channel, DS_NACK),
-        Message::Bad => protocol::close(state, channel),
+        Message::Nack => protocol::only_noted(state, channel, DS_NACK),
+        Message::Bad => protocol::close(state, channel, 1),
     }
 }
 
 // What a message does.
-pub fn take(state: &mut State, channel: usize, message: &[u8], out: &mut [u8]) -> Made
-    requires { ⌜ (sound (now state) ≡ true) × (channel < 4) × (672 ≤ length (now out)) ⌝ }
-    ensures { λ r. ⌜ Makes (receiving (now (state .entry)) channel (now (message .entry))) (now (out .entry)) r (now (state .exit)) (now (out .exit)) ⌝ }
+pub fn take(state: &mut State, channel: usize, message: &[u8], out: &mut [u8]) -> Handled
+    requires { ⌜ (sound (now state) ≡ true) × (channel < channelCount) × (outputBytes ≤ length (now out)) ⌝ }
+    ensures { λ r. ⌜ Handles (receiving (now (state .entry)) channel (now (message .entry))) (now (out .entry)) (r .length) (r .event) (now (state .exit)) (now (out .exit)) ⌝ }
 {
     let ready = state::is_ready(state, channel);
     let decoded = messages::decode(message);
     if hears(ready, decoded) {
         return hear(state, channel, message, decoded, out);
     }
-    protocol::close(state, channel)
+    protocol::close(state, channel, 1)
+}
+
+// The data for the service that was found goes to the host.
+fn goes_to_host(found: Found) -> bool
+    ensures { λ r. ⌜ r ≡ goesToHost found ⌝ }
+{
+    match found {
+        Found::At { place } => is_host(services::route(place)),
+        Found::Nowhere => false,
+    }
+}
+
+fn is_host(route: Route) -> bool
+    ensures { λ r. ⌜ r ≡ isHost route ⌝ }
+{
+    match route {
+        Route::Memory => false,
+        Route::Host => true,
+    }
+}
+
+// The message is data for the host.
+pub fn is_to_host(state: &State, channel: usize, message: Message) -> bool
+    requires { ⌜ channel < channelCount ⌝ }
+    ensures { λ r. ⌜ r ≡ toHost (now (state .entry)) channel message ⌝ }
+{
+    match message {
+        Message::Data { handle } => goes_to_host(state::find_staged(
+            state,
+            channel,
+            handle,
+            REGISTERED,
+        )),
+        _ => false,
+    }
 }

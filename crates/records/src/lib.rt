@@ -1,45 +1,59 @@
 // The parts of a memory reply: its headers, and its result records.
+use model::DR_MEM_OK;
+use model::DS_DATA;
+use model::DS_HEADER_BYTES;
+use model::Found;
+use model::MOST_RECORDS;
+use model::REPLY_HEADER_BYTES;
+use model::RESULT_BYTES;
 use model::State;
 ghost use mathlib.Core.Path.{_≡_};
-ghost use mathlib.Core.List.{_++_};
-ghost use Prim.Native.Nat.{_+_, _≤_};
+ghost use mathlib.Core.List.{[], _++_};
+ghost use Prim.Native.Nat.{_+_, _≤_, _<_};
 ghost use lib.ListN.{length, getD};
 ghost use lib.Seq.{sets};
 ghost use Rattle.wire.specs.BigEndian.{bytesOf};
 ghost use Rattle.model.specs.Choice.{joined};
-ghost use Rattle.model.specs.Layout.{blocksOf};
-ghost use Rattle.model.specs.Memory.{statusOf, resultRecord};
+ghost use Rattle.model.specs.declared.Found.the-variants.{At};
+ghost use Rattle.model.specs.Layout.{blocksOf, mostBlocks, mostRecords, outputBytes, replyHeaderBytes, resultBytes};
+ghost use Rattle.model.specs.Memory.{statusOf, resultRecord, statusAt, memoryReply};
+ghost use Rattle.wire.specs.BigEndian.{written};
 ghost use Rattle.records.specs.Header.{memoryHeader};
+ghost use Rattle.records.specs.Results.{ResultsWritten};
 
-const DS_DATA: u32 = 0x9;
+// the bytes of a reply's payload before its records
+const PAYLOAD_HEADER_BYTES: usize = REPLY_HEADER_BYTES - DS_HEADER_BYTES;
 
-// The bytes of the two headers, and of a result record.
-pub const HEADERS: usize = 32;
-
-pub const RESULT_BYTES: usize = 28;
-
-// "status after the request (0 unknown, 1 unconfigured, 2 configured)"
-pub fn status_of(state: &State, addr: u64, size: u64) -> u64
-    requires { ⌜ blocksOf (now state) ≤ 16 ⌝ }
-    ensures { λ r. ⌜ r ≡ statusOf (now (state .entry)) addr size ⌝ }
+// The status of block `i`: 1 unconfigured, 2 configured.
+fn status_at(state: &State, i: usize) -> u64
+    requires { ⌜ i < mostBlocks ⌝ }
+    ensures { λ r. ⌜ r ≡ statusAt (now (state .entry)) (At i) ⌝ }
 {
-    let i = blocks::named_block(state, addr, size);
-    if state::blocks_of(state) <= i {
-        return 0;
-    }
     if state::configured_of(state, i) == 1 {
         return 2;
     }
     1
 }
 
+// "status after the request (0 unknown, 1 unconfigured, 2 configured)"
+pub fn status_of(state: &State, addr: u64, size: u64) -> u64
+    requires { ⌜ blocksOf (now state) ≤ mostBlocks ⌝ }
+    ensures { λ r. ⌜ r ≡ statusOf (now (state .entry)) addr size ⌝ }
+{
+    let found = blocks::named_block(state, addr, size);
+    match found {
+        Found::At { place } => status_at(state, place),
+        Found::Nowhere => 0,
+    }
+}
+
 // The header of DATA with its handle, and the header of a memory message; `rest` bytes of records follow them.
 pub fn put_header(out: &mut [u8], handle: u64, kind: u32, argument: u32, request: u64, rest: usize)
-    requires { ⌜ (rest ≤ 640) × (672 ≤ length (now out)) ⌝ }
+    requires { ⌜ (replyHeaderBytes + rest ≤ outputBytes) × (outputBytes ≤ length (now out)) ⌝ }
     ensures { λ _. ⌜ now (out .exit) ≡ sets (now (out .entry)) 0 (memoryHeader handle kind argument request rest) ⌝ }
 {
     wire::put32(out, 0, DS_DATA);
-    wire::put32(out, 4, (24 + rest) as u32);
+    wire::put32(out, 4, (PAYLOAD_HEADER_BYTES + rest) as u32);
     wire::put64(out, 8, handle);
     wire::put32(out, 16, kind);
     wire::put32(out, 20, argument);
@@ -48,7 +62,7 @@ pub fn put_header(out: &mut [u8], handle: u64, kind: u32, argument: u32, request
 
 // "Result records have 28 bytes: addr, size, result, status after the request .., string offset 0." The record fills its part.
 pub fn put_result_record(part: &mut [u8], addr: u64, size: u64, result: u64, status: u64)
-    requires { ⌜ length (now part) ≡ 28 ⌝ }
+    requires { ⌜ length (now part) ≡ resultBytes ⌝ }
     ensures { λ _. ⌜ now (part .exit) ≡ bytesOf 8 addr ++ bytesOf 8 size ++ bytesOf 4 result ++ bytesOf 4 status ++ bytesOf 4 0 ⌝ }
 {
     wire::put64(part, 0, addr);
@@ -62,20 +76,47 @@ pub fn put_result_record(part: &mut [u8], addr: u64, size: u64, result: u64, sta
 pub fn put_result_records(
     state: &State,
     out: &mut [u8],
-    address: [u64; 16],
-    size: [u64; 16],
-    result: [u64; 16],
+    address: [u64; MOST_RECORDS],
+    size: [u64; MOST_RECORDS],
+    result: [u64; MOST_RECORDS],
     n: usize,
 )
-    requires { ⌜ (n ≤ 16) × (blocksOf (now state) ≤ 16) × (672 ≤ length (now out)) ⌝ }
-    ensures { λ _. ⌜ now (out .exit) ≡ sets (now (out .entry)) 32 (joined (λ i. resultRecord (now (state .entry)) (getD address i 0) (getD size i 0) (getD result i 0)) n) ⌝ }
+    requires { ⌜ (n ≤ mostRecords) × (blocksOf (now state) ≤ mostBlocks) × (outputBytes ≤ length (now out)) ⌝ }
+    ensures { λ _. ⌜ now (out .exit) ≡ sets (now (out .entry)) replyHeaderBytes (joined (λ i. resultRecord (now (state .entry)) (getD address i 0) (getD size i 0) (getD result i 0)) n) ⌝ }
 {
     let mut i: usize = 0;
     while i < n {
         let status = status_of(state, address[i], size[i]);
-        let at = HEADERS + i * RESULT_BYTES;
+        let at = REPLY_HEADER_BYTES + i * RESULT_BYTES;
         let end = at + RESULT_BYTES;
         put_result_record(&mut out[at..end], address[i], size[i], result[i], status);
         i += 1;
     }
+}
+
+// A reply without records.
+pub fn put_bare(out: &mut [u8], handle: u64, kind: u32, request: u64)
+    requires { ⌜ outputBytes ≤ length (now out) ⌝ }
+    ensures { λ _. ⌜ now (out .exit) ≡ written (memoryReply handle kind 0 request []) (now (out .entry)) ⌝ }
+{
+    put_header(out, handle, kind, 0, request, 0);
+}
+
+// The reply with a result for each record, and its length.
+pub fn put_results(
+    state: &State,
+    handle: u64,
+    request: u64,
+    address: [u64; MOST_RECORDS],
+    size: [u64; MOST_RECORDS],
+    result: [u64; MOST_RECORDS],
+    n: usize,
+    out: &mut [u8],
+) -> usize
+    requires { ⌜ (blocksOf (now state) ≤ mostBlocks) × (n ≤ mostRecords) × (outputBytes ≤ length (now out)) ⌝ }
+    ensures { λ r. ⌜ ResultsWritten (now (state .entry)) handle request address size result n (now (out .entry)) r (now (out .exit)) ⌝ }
+{
+    put_header(out, handle, DR_MEM_OK, n as u32, request, n * RESULT_BYTES);
+    put_result_records(state, out, address, size, result, n);
+    REPLY_HEADER_BYTES + n * RESULT_BYTES
 }

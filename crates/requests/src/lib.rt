@@ -1,49 +1,41 @@
 // The form of a memory request: bytes decoded into a request.
+use model::DR_MEM_CONFIGURE;
+use model::DR_MEM_QUERY;
+use model::DR_MEM_UNCONF_CANCEL;
+use model::DR_MEM_UNCONF_STATUS;
+use model::DR_MEM_UNCONFIGURE;
+use model::MEMORY_HEADER_BYTES;
+use model::MOST_RECORDS;
+use model::PAIR_BYTES;
 use model::Request;
 ghost use mathlib.Core.Path.{_≡_};
 ghost use Prim.Native.Nat.{_+_, _*_, _≤_, _<_};
 ghost use lib.ListN.{length};
-ghost use Rattle.model.specs.Memory.{
-  argumentOf,
-  requestNumber,
-  addrIn,
-  sizeIn,
-  pairsDiffer,
-  hasRecords,
-  hasNothing,
-  requestOf,
-};
+ghost use Rattle.wire.specs.BigEndian.{numberAt};
+ghost use Rattle.model.specs.Choice.{tabulate};
+ghost use Rattle.model.specs.Memory.{DR-MEM-UNCONF-STATUS, DR-MEM-UNCONF-CANCEL, argumentOf, requestNumber, addrIn, sizeIn, pairsDiffer, hasRecords, hasNothing, requestOf};
+ghost use Rattle.model.specs.Layout.{memoryHeaderBytes, pairBytes, mostRecords};
 ghost use Rattle.requests.specs.Pairs.{samePair, newPair};
-
-const DR_MEM_CONFIGURE: u64 = 0x4d43;
-
-const DR_MEM_UNCONFIGURE: u64 = 0x4d55;
-
-const DR_MEM_QUERY: u64 = 0x4d51;
-
-const DR_MEM_UNCONF_STATUS: u64 = 0x4d53;
-
-const DR_MEM_UNCONF_CANCEL: u64 = 0x4d4e;
 
 // The address of record `i`.
 pub fn address(b: &[u8], i: usize) -> u64
-    requires { ⌜ 32 + i * 16 ≤ length (now b) ⌝ }
+    requires { ⌜ memoryHeaderBytes + pairBytes + i * pairBytes ≤ length (now b) ⌝ }
     ensures { λ r. ⌜ r ≡ addrIn (now (b .entry)) i ⌝ }
 {
-    wire::get64(b, 16 + i * 16)
+    wire::get64(b, MEMORY_HEADER_BYTES + i * PAIR_BYTES)
 }
 
 // Its size.
 pub fn size(b: &[u8], i: usize) -> u64
-    requires { ⌜ 32 + i * 16 ≤ length (now b) ⌝ }
+    requires { ⌜ memoryHeaderBytes + pairBytes + i * pairBytes ≤ length (now b) ⌝ }
     ensures { λ r. ⌜ r ≡ sizeIn (now (b .entry)) i ⌝ }
 {
-    wire::get64(b, 24 + i * 16)
+    wire::get64(b, MEMORY_HEADER_BYTES + 8 + i * PAIR_BYTES)
 }
 
 // Records `k` and `i` are the same pair.
 fn same_pair(b: &[u8], k: usize, i: usize) -> bool
-    requires { ⌜ (32 + k * 16 ≤ length (now b)) × (32 + i * 16 ≤ length (now b)) ⌝ }
+    requires { ⌜ (memoryHeaderBytes + pairBytes + k * pairBytes ≤ length (now b)) × (memoryHeaderBytes + pairBytes + i * pairBytes ≤ length (now b)) ⌝ }
     ensures { λ r. ⌜ r ≡ samePair (now (b .entry)) k i ⌝ }
 {
     if address(b, k) != address(b, i) {
@@ -54,7 +46,7 @@ fn same_pair(b: &[u8], k: usize, i: usize) -> bool
 
 // Record `i` is none of those before it.
 fn new_pair(b: &[u8], i: usize) -> bool
-    requires { ⌜ 32 + i * 16 ≤ length (now b) ⌝ }
+    requires { ⌜ memoryHeaderBytes + pairBytes + i * pairBytes ≤ length (now b) ⌝ }
     ensures { λ r. ⌜ r ≡ newPair (now (b .entry)) i ⌝ }
 {
     let mut k: usize = 0;
@@ -69,7 +61,7 @@ fn new_pair(b: &[u8], i: usize) -> bool
 
 // "no pair twice"
 fn pairs_differ(b: &[u8], n: usize) -> bool
-    requires { ⌜ (n ≡ argumentOf (now b)) × (16 + n * 16 ≤ length (now b)) ⌝ }
+    requires { ⌜ (n ≡ argumentOf (now b)) × (memoryHeaderBytes + n * pairBytes ≤ length (now b)) ⌝ }
     ensures { λ r. ⌜ r ≡ pairsDiffer (now (b .entry)) ⌝ }
 {
     let mut i: usize = 0;
@@ -84,17 +76,17 @@ fn pairs_differ(b: &[u8], n: usize) -> bool
 
 // "argument n from 1 to 16, exactly 16n bytes (addr, size) after the header, no pair twice"
 fn has_records(b: &[u8]) -> bool
-    requires { ⌜ 16 ≤ length (now b) ⌝ }
+    requires { ⌜ memoryHeaderBytes ≤ length (now b) ⌝ }
     ensures { λ r. ⌜ r ≡ hasRecords (now (b .entry)) ⌝ }
 {
     let n = wire::get32(b, 4) as usize;
     if n < 1 {
         return false;
     }
-    if 16 < n {
+    if MOST_RECORDS < n {
         return false;
     }
-    if b.len() != 16 + n * 16 {
+    if b.len() != MEMORY_HEADER_BYTES + n * PAIR_BYTES {
         return false;
     }
     pairs_differ(b, n)
@@ -102,23 +94,23 @@ fn has_records(b: &[u8]) -> bool
 
 // "argument 0, nothing after"
 fn has_nothing(b: &[u8]) -> bool
-    requires { ⌜ 16 ≤ length (now b) ⌝ }
+    requires { ⌜ memoryHeaderBytes ≤ length (now b) ⌝ }
     ensures { λ r. ⌜ r ≡ hasNothing (now (b .entry)) ⌝ }
 {
     if wire::get32(b, 4) != 0 {
         return false;
     }
-    b.len() == 16
+    b.len() == MEMORY_HEADER_BYTES
 }
 
 // The request that the bytes are; "Anything else: ERROR".
 pub fn decode(b: &[u8]) -> Request
     ensures { λ r. ⌜ r ≡ requestOf (now (b .entry)) ⌝ }
 {
-    if b.len() < 16 {
+    if b.len() < MEMORY_HEADER_BYTES {
         return Request::Malformed;
     }
-    let kind = wire::get32(b, 0);
+    let kind = wire::get32(b, 0) as u32;
     if kind == DR_MEM_UNCONF_STATUS {
         if has_nothing(b) {
             return Request::Status;
@@ -135,8 +127,8 @@ pub fn decode(b: &[u8]) -> Request
 }
 
 // The three requests that have records.
-fn decode_records(b: &[u8], kind: u64) -> Request
-    requires { ⌜ (16 ≤ length (now b)) × (kind ≡ Rattle.model.specs.Memory.requestType (now b)) × (kind ≡ 0x4d53 → ⊥) × (kind ≡ 0x4d4e → ⊥) ⌝ }
+fn decode_records(b: &[u8], kind: u32) -> Request
+    requires { ⌜ (memoryHeaderBytes ≤ length (now b)) × (kind ≡ Rattle.model.specs.Memory.requestType (now b)) × (kind ≡ DR-MEM-UNCONF-STATUS → ⊥) × (kind ≡ DR-MEM-UNCONF-CANCEL → ⊥) ⌝ }
     ensures { λ r. ⌜ r ≡ requestOf (now (b .entry)) ⌝ }
 {
     if !has_records(b) {
@@ -159,8 +151,38 @@ fn decode_records(b: &[u8], kind: u64) -> Request
 pub fn number(b: &[u8]) -> u64
     ensures { λ r. ⌜ r ≡ requestNumber (now (b .entry)) ⌝ }
 {
-    if b.len() < 16 {
+    if b.len() < MEMORY_HEADER_BYTES {
         return 0;
     }
     wire::get64(b, 8)
+}
+
+// The 64-bit number at the same place of each of the `n` records of a request, `at` in the first one, and 0 after them.
+fn column(b: &[u8], at: usize, n: usize) -> [u64; MOST_RECORDS]
+    requires { ⌜ (n ≤ mostRecords) × (length (now b) ≡ memoryHeaderBytes + n * pairBytes) × (memoryHeaderBytes ≤ at) × (at + 8 ≤ memoryHeaderBytes + pairBytes) ⌝ }
+    ensures { λ r. ⌜ r ≡ tabulate (λ i. numberAt (now (b .entry)) (at + i * pairBytes) 8) mostRecords ⌝ }
+{
+    let mut out = [0u64; MOST_RECORDS];
+    let mut i: usize = 0;
+    while i < n {
+        out[i] = wire::get64(b, at + i * PAIR_BYTES);
+        i += 1;
+    }
+    out
+}
+
+// The addresses of the `n` records of a request, and 0 after them.
+pub fn addresses(b: &[u8], n: usize) -> [u64; MOST_RECORDS]
+    requires { ⌜ (n ≤ mostRecords) × (length (now b) ≡ memoryHeaderBytes + n * pairBytes) ⌝ }
+    ensures { λ r. ⌜ r ≡ tabulate (λ i. addrIn (now (b .entry)) i) mostRecords ⌝ }
+{
+    column(b, MEMORY_HEADER_BYTES, n)
+}
+
+// Their sizes.
+pub fn sizes(b: &[u8], n: usize) -> [u64; MOST_RECORDS]
+    requires { ⌜ (n ≤ mostRecords) × (length (now b) ≡ memoryHeaderBytes + n * pairBytes) ⌝ }
+    ensures { λ r. ⌜ r ≡ tabulate (λ i. sizeIn (now (b .entry)) i) mostRecords ⌝ }
+{
+    column(b, MEMORY_HEADER_BYTES + 8, n)
 }

@@ -11,6 +11,7 @@ use Rattle.model.specs.Messages.{Service, serviceOf, noService}
 use Rattle.model.proofs.Choice.{both, every-at}
 use Rattle.services.specs.declared.Row.{Row}
 use Rattle.services.specs.Table.{serviceIn, rowFits, RowFits, noRow, TableRight, RowOf}
+use Rattle.model.specs.Layout.{serviceCount}
 
 row-fits : {row : Row} → rowFits row ≡ true → RowFits row
 unfolding rowFits
@@ -19,12 +20,12 @@ row-fits test =
     let rest = both _ _ (first .1) in
     record { room = leb-true _ _ (first .0); size = eqb-true _ _ (rest .0); zero = rest .1 }
 
-pub rule-at : {rows : List Row} → TableRight rows → (v : ℕ) → v < 4 → RowOf (getD rows v noRow) (serviceOf v)
+pub rule-at : {rows : List Row} → TableRight rows → (v : ℕ) → v < serviceCount → RowOf (getD rows v noRow) (serviceOf v)
 rule-at {rows} rule v h =
     record {
       same =
           sym (List·getD-map serviceIn rows v noRow) ∙ ap (λ (l : List Service). getD l v noService) (rule .same);
-      fits = row-fits (every-at (λ k. rowFits (getD rows k noRow)) 4 v (rule .fits) h);
+      fits = row-fits (every-at (λ k. rowFits (getD rows k noRow)) serviceCount v (rule .fits) h);
     }
 
 -- a row has all of its id

@@ -9,6 +9,7 @@ use lib.Dec.{leb, eqb}
 use Rattle.model.specs.Choice.{_and_, every}
 use Rattle.model.specs.Messages.{Service, services}
 use Rattle.services.specs.declared.Row.{Row}
+use Rattle.model.specs.Layout.{serviceCount}
 
 -- the service that a row tells of
 abbrev pub serviceIn : Row → Service
@@ -38,7 +39,7 @@ noRow = record { id = []; length = 0; major = 0; minor = 0 }
 -- the rule: the rows are the definition's services, and each fits
 pub record TableRight (rows : List Row) : Type 0 where
   pub same : map serviceIn rows ≡ services
-  pub fits : every 4 (λ v. rowFits (getD rows v noRow)) ≡ true
+  pub fits : every serviceCount (λ v. rowFits (getD rows v noRow)) ≡ true
 
 -- what the rule says of one row and its service
 pub record RowOf (row : Row) (service : Service) : Type 0 where

@@ -1,5 +1,15 @@
-// The table of the four services, and the DS messages that the agent sends.
-
+// The table of the services, where the data for each goes, and the DS messages that the agent sends.
+use model::DS_INIT_ACK;
+use model::DS_INIT_NACK;
+use model::DS_NACK;
+use model::DS_REG_NACK;
+use model::DS_REG_REQ;
+use model::DS_UNREG;
+use model::DS_UNREG_ACK;
+use model::DS_UNREG_NACK;
+use model::MEMORY_SERVICE;
+use model::Route;
+use model::SERVICE_COUNT;
 ghost use mathlib.Core.Path.{_≡_};
 ghost use mathlib.Core.List.{_++_};
 ghost use Prim.Native.Nat.{_+_, _<_, _≤_};
@@ -7,6 +17,7 @@ ghost use lib.ListN.{length};
 ghost use lib.Seq.{sets};
 ghost use Rattle.wire.specs.BigEndian.{bytesOf};
 ghost use Rattle.model.specs.Messages.{
+  route,
   serviceOf,
   dsMessage,
   initAck,
@@ -18,25 +29,9 @@ ghost use Rattle.model.specs.Messages.{
   unregNack,
   nack,
 };
+ghost use Rattle.model.specs.Layout.{serviceCount, outputBytes};
 ghost use Rattle.services.specs.Table.{serviceIn, RowFits, TableRight, RowOf};
 ghost use Rattle.services.specs.Output.{Wrote};
-
-// Types of messages.
-const DS_INIT_ACK: u32 = 0x1;
-
-const DS_INIT_NACK: u32 = 0x2;
-
-const DS_REG_REQ: u32 = 0x3;
-
-const DS_REG_NACK: u32 = 0x5;
-
-const DS_UNREG: u32 = 0x6;
-
-const DS_UNREG_ACK: u32 = 0x7;
-
-const DS_UNREG_NACK: u32 = 0x8;
-
-const DS_NACK: u32 = 0xa;
 
 // A row of the table of services: the id with its zero and more zeros after it, its length with the one zero, and the version.
 struct Row {
@@ -46,7 +41,7 @@ struct Row {
     minor: u16,
 }
 
-const SERVICES: [Row; 4] = [
+const SERVICES: [Row; SERVICE_COUNT] = [
     Row {
         id: *b"dr-mem\0\0\0\0\0\0\0\0\0\0",
         length: 7,
@@ -74,8 +69,8 @@ const SERVICES: [Row; 4] = [
 ];
 
 // The row of a service, in a table that keeps the rule.
-fn row_in(rows: [Row; 4], service: usize) -> Row
-    requires { ⌜ TableRight rows × (service < 4) ⌝ }
+fn row_in(rows: [Row; SERVICE_COUNT], service: usize) -> Row
+    requires { ⌜ TableRight rows × (service < serviceCount) ⌝ }
     ensures { λ r. ⌜ RowOf r (serviceOf service) ⌝ }
 {
     rows[service]
@@ -83,7 +78,7 @@ fn row_in(rows: [Row; 4], service: usize) -> Row
 
 // The row of a service. The table is read only here, so its rule is proved once.
 fn row_of(service: usize) -> Row
-    requires { ⌜ service < 4 ⌝ }
+    requires { ⌜ service < serviceCount ⌝ }
     ensures { λ r. ⌜ RowOf r (serviceOf service) ⌝ }
 {
     row_in(SERVICES, service)
@@ -91,11 +86,21 @@ fn row_of(service: usize) -> Row
 
 // The minor version of a service.
 pub fn minor(service: usize) -> u64
-    requires { ⌜ service < 4 ⌝ }
+    requires { ⌜ service < serviceCount ⌝ }
     ensures { λ r. ⌜ r ≡ serviceOf service .minor ⌝ }
 {
     let row = row_of(service);
     row.minor as u64
+}
+
+// "Service 0 is answered inside; data for the others goes to the host."
+pub fn route(service: usize) -> Route
+    ensures { λ r. ⌜ r ≡ route service ⌝ }
+{
+    if service == MEMORY_SERVICE {
+        return Route::Memory;
+    }
+    Route::Host
 }
 
 // "Header: type (4), payload_len (4)."
@@ -119,7 +124,7 @@ fn put_version(out: &mut [u8], message_type: u32, version: u16) -> usize
 
 // INIT_ACK: minor_vers.
 pub fn put_init_ack(out: &mut [u8], minor: u16) -> usize
-    requires { ⌜ 672 ≤ length (now out) ⌝ }
+    requires { ⌜ outputBytes ≤ length (now out) ⌝ }
     ensures { λ r. ⌜ Wrote (initAck minor) (now (out .entry)) r (now (out .exit)) ⌝ }
 {
     put_version(out, DS_INIT_ACK, minor)
@@ -127,7 +132,7 @@ pub fn put_init_ack(out: &mut [u8], minor: u16) -> usize
 
 // INIT_NACK: major_vers.
 pub fn put_init_nack(out: &mut [u8], major: u16) -> usize
-    requires { ⌜ 672 ≤ length (now out) ⌝ }
+    requires { ⌜ outputBytes ≤ length (now out) ⌝ }
     ensures { λ r. ⌜ Wrote (initNack major) (now (out .entry)) r (now (out .exit)) ⌝ }
 {
     put_version(out, DS_INIT_NACK, major)
@@ -159,7 +164,7 @@ fn put_row(out: &mut [u8], row: Row)
 
 // REG_REQ: svc_handle, then the row. "Offer sends REG_REQ with the id and its zero."
 pub fn put_reg_req(out: &mut [u8], handle: u64, service: usize) -> usize
-    requires { ⌜ (service < 4) × (672 ≤ length (now out)) ⌝ }
+    requires { ⌜ (service < serviceCount) × (outputBytes ≤ length (now out)) ⌝ }
     ensures { λ r. ⌜ Wrote (regReq handle (serviceOf service)) (now (out .entry)) r (now (out .exit)) ⌝ }
 {
     let row = row_of(service);
@@ -182,7 +187,7 @@ fn put_result(out: &mut [u8], message_type: u32, payload_len: u32, handle: u64, 
 
 // REG_NACK: svc_handle, result, major_vers.
 pub fn put_reg_nack(out: &mut [u8], handle: u64, result: u64, major: u16) -> usize
-    requires { ⌜ 672 ≤ length (now out) ⌝ }
+    requires { ⌜ outputBytes ≤ length (now out) ⌝ }
     ensures { λ r. ⌜ Wrote (regNack handle result major) (now (out .entry)) r (now (out .exit)) ⌝ }
 {
     put_result(out, DS_REG_NACK, 18, handle, result);
@@ -192,7 +197,7 @@ pub fn put_reg_nack(out: &mut [u8], handle: u64, result: u64, major: u16) -> usi
 
 // NACK: svc_handle, result.
 pub fn put_nack(out: &mut [u8], handle: u64, result: u64) -> usize
-    requires { ⌜ 672 ≤ length (now out) ⌝ }
+    requires { ⌜ outputBytes ≤ length (now out) ⌝ }
     ensures { λ r. ⌜ Wrote (nack handle result) (now (out .entry)) r (now (out .exit)) ⌝ }
 {
     put_result(out, DS_NACK, 16, handle, result);
@@ -211,7 +216,7 @@ fn put_handle(out: &mut [u8], message_type: u32, handle: u64) -> usize
 
 // UNREG, which withdraw sends.
 pub fn put_unreg(out: &mut [u8], handle: u64) -> usize
-    requires { ⌜ 672 ≤ length (now out) ⌝ }
+    requires { ⌜ outputBytes ≤ length (now out) ⌝ }
     ensures { λ r. ⌜ Wrote (unreg handle) (now (out .entry)) r (now (out .exit)) ⌝ }
 {
     put_handle(out, DS_UNREG, handle)
@@ -219,7 +224,7 @@ pub fn put_unreg(out: &mut [u8], handle: u64) -> usize
 
 // UNREG_ACK, the answer to an UNREG for a live handle.
 pub fn put_unreg_ack(out: &mut [u8], handle: u64) -> usize
-    requires { ⌜ 672 ≤ length (now out) ⌝ }
+    requires { ⌜ outputBytes ≤ length (now out) ⌝ }
     ensures { λ r. ⌜ Wrote (unregAck handle) (now (out .entry)) r (now (out .exit)) ⌝ }
 {
     put_handle(out, DS_UNREG_ACK, handle)
@@ -227,7 +232,7 @@ pub fn put_unreg_ack(out: &mut [u8], handle: u64) -> usize
 
 // UNREG_NACK, the answer to any other UNREG.
 pub fn put_unreg_nack(out: &mut [u8], handle: u64) -> usize
-    requires { ⌜ 672 ≤ length (now out) ⌝ }
+    requires { ⌜ outputBytes ≤ length (now out) ⌝ }
     ensures { λ r. ⌜ Wrote (unregNack handle) (now (out .entry)) r (now (out .exit)) ⌝ }
 {
     put_handle(out, DS_UNREG_NACK, handle)

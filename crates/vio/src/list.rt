@@ -1,7 +1,7 @@
 // The list of lines on standard input, answered on standard output. Input and output go in pieces of up to 65,536 bytes.
 ghost use Rattle.io.specs.Counts.{Counts};
 use crate::answers;
-use crate::made;
+use crate::parsed;
 use libc::STDERR_FILENO;
 use libc::STDIN_FILENO;
 use lines::fields;
@@ -29,16 +29,16 @@ fn call(line: &[u8], zero: &mut End, one: &mut End, text: &mut Text, used: &mut 
     let name = &line[..end];
     let rest = &line[end..];
     if fields::same(name, b"receive") {
-        return made::receive(rest, zero, one, text, used);
+        return parsed::receive(rest, zero, one, text, used);
     }
     if fields::same(name, b"start") {
-        return made::start(rest, zero, one, text, used);
+        return parsed::start(rest, zero, one, text, used);
     }
     if fields::same(name, b"state") {
-        return made::state(rest, zero, one, text, used);
+        return parsed::state(rest, zero, one, text, used);
     }
     if fields::same(name, b"end") {
-        return made::end(rest, zero, one, text, used);
+        return parsed::end(rest, zero, one, text, used);
     }
     false
 }

@@ -1,7 +1,7 @@
 // Two ends of the VIO version handshake, over a list of lines on standard input.
 mod answers;
 mod list;
-mod made;
+mod parsed;
 
 fn main() {
     list::run();

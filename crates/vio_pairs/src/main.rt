@@ -4,6 +4,7 @@ ghost use Prim.Native.Nat.{_≤_};
 use lines::output;
 use lines::output::TEXT_BYTES;
 use lines::output::Text;
+use model::lower;
 use vio_model::AGREED;
 use vio_model::ENDED;
 use vio_model::End;
@@ -161,13 +162,6 @@ fn highest_common(a: u64, b: u64) -> u64 {
         return 1;
     }
     0
-}
-
-fn lower(a: u64, b: u64) -> u64 {
-    if a < b {
-        return a;
-    }
-    b
 }
 
 fn has_agreed(end: &End, id: u64, major: u64, minor: u64) -> bool {

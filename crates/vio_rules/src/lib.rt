@@ -1,4 +1,5 @@
 // The rules of ticket 10: what a sound end sends, and what each message does.
+use model::lower;
 use vio_message::Message;
 use vio_model::ACCEPTS;
 use vio_model::ACK;
@@ -16,7 +17,6 @@ use vio_versions::session_of;
 use vio_versions::versions_of;
 ghost use mathlib.Core.Path.{_≡_};
 ghost use mathlib.Core.Bool.{true};
-ghost use Prim.Native.Nat.{min};
 ghost use lib.Dec.{eqb, ltb};
 ghost use Rattle.model.specs.Choice.{_and_, _or_};
 ghost use Rattle.vio_model.specs.Layout.{endOf};
@@ -76,15 +76,6 @@ pub fn asking(end: &[u64], id: u64, bound: u64) -> Effect
         Session::Asked { id, major, minor },
         message(INFO, id, end[CLASS], major, minor),
     )
-}
-
-fn lower(a: u64, b: u64) -> u64
-    ensures { λ r. ⌜ r ≡ min a b ⌝ }
-{
-    if a <= b {
-        return a;
-    }
-    b
 }
 
 // The answer to a request: refused unchanged, acknowledged with the lower minor, or refused with the next lower major.

@@ -1,16 +1,16 @@
 -- `blocks::named_block` meets its contract: no block passed is named by the pair.
 -- Assumes nothing.
-use mathlib.Core.Path.{_≡_, refl, sym, _∙_}
+use mathlib.Core.Path.{sym, _∙_}
 use Prim.Native.Nat.{_≤_, _-_}
 use native.Mathlib.Omega.{arith}
-use Rattle.model.specs.Blocks.{names, namedBelow}
-use Rattle.model.specs.Layout.{blockIn}
-use Rattle.blocks.proofs.Search.{search-more, search-found, search-all}
+use Rattle.model.specs.Blocks.{names, namedBlock}
+use Rattle.model.specs.Layout.{blockIn, blockAt}
+use Rattle.model.proofs.Loops.{NoneBelow, none-first, none-more, found-here, found-nowhere}
 use Rattle.blocks.proofs.named_block.Statement.{statement}
 use Rattle.blocks.proofs.named_block.Tie as tie
 
 abbrev Inv-loop : tie.InvT-loop
-Inv-loop state addr size n i₀ i = (i ≤ n) × (namedBelow state addr size i ≡ i)
+Inv-loop state addr size n i₀ i = (i ≤ n) × NoneBelow (λ k. names addr size (blockAt state k)) i
 
 abbrev μ-loop : tie.MeasureT-loop
 μ-loop state addr size n i₀ i = n - i
@@ -19,8 +19,7 @@ element-copy-out-n : tie.Need-element-copy-out-n Inv-loop μ-loop
 element-copy-out-n c = omega arith
 
 loop-holds : tie.Need-loop-holds Inv-loop μ-loop
-unfolding namedBelow
-loop-holds c = (omega arith, refl)
+loop-holds c = (omega arith, none-first _)
 
 mul-b : tie.Need-mul-b Inv-loop μ-loop
 mul-b c = omega arith
@@ -47,8 +46,8 @@ names-block-requires : tie.Need-names-block-requires Inv-loop μ-loop
 names-block-requires c κs = tt
 
 returns : tie.Need-returns Inv-loop μ-loop
-unfolding names blockIn
-returns c = search-found _ _ _ _ (c .before .before .before .before .before .loop .inv .1) _ (c .before .before .before .before .loop-test .taken) (sym (c .before .names-block .ensures) ∙ c .if1 .taken)
+unfolding names blockIn namedBlock
+returns c = found-here _ _ _ (c .before .before .before .before .before .loop .inv .1) (c .before .before .before .before .loop-test .taken) (sym (c .before .names-block .ensures) ∙ c .if1 .taken)
 
 add-i : tie.Need-add-i Inv-loop μ-loop
 add-i c = omega arith
@@ -58,10 +57,11 @@ loop-less c = omega arith
 
 loop-again : tie.Need-loop-again Inv-loop μ-loop
 unfolding names blockIn
-loop-again c = (omega arith, search-more _ _ _ _ (c .before .before .before .before .before .loop .inv .1) (sym (c .before .names-block .ensures) ∙ c .if1 .left))
+loop-again c = (omega arith, none-more _ _ (c .before .before .before .before .before .loop .inv .1) (sym (c .before .names-block .ensures) ∙ c .if1 .left))
 
 returns-2 : tie.Need-returns-2 Inv-loop μ-loop
-returns-2 c = search-all _ _ _ _ (c .before .loop .inv .1) _ (c .before .loop .inv .0) (c .loop-test .left)
+unfolding namedBlock
+returns-2 c = found-nowhere _ _ _ (c .before .loop .inv .1) (c .loop-test .left)
 
 pub named-block-spec : {M : Type 1} → statement M
 named-block-spec =

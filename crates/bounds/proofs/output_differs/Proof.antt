@@ -1,41 +1,33 @@
 use borrow.Author.Needs.{needs}
 use Prim.Native.Nat.{_≤_, _-_}
+use Rattle.model.specs.Layout.{outputBytes}
 use Rattle.bounds.proofs.output_differs.Statement.{statement}
 use Rattle.bounds.proofs.output_differs.Tie as tie
-use Rattle.bounds.proofs.output_differs.Reads as reads
-use Rattle.bounds.proofs.output_differs.Lts as lts
 
 abbrev Inv-loop : tie.InvT-loop
-Inv-loop out i₀ i = i ≤ 672
+Inv-loop out i₀ i = i ≤ outputBytes
 
 abbrev μ-loop : tie.MeasureT-loop
-μ-loop out i₀ i = 672 - i
+μ-loop out i₀ i = outputBytes - i
 
--- src/main.rt:42:5
 loop-holds : tie.Need-loop-holds Inv-loop μ-loop
 loop-holds c = search needs
 
--- src/main.rt:43:12
 element-copy-out-if1 : tie.Need-element-copy-out-if1 Inv-loop μ-loop
 element-copy-out-if1 c = search needs
 
--- src/main.rt:44:13
 returns : tie.Need-returns Inv-loop μ-loop
 returns c = search needs
 
--- src/main.rt:46:9
 add-i : tie.Need-add-i Inv-loop μ-loop
 add-i c = search needs
 
--- src/main.rt:42:5
 loop-less : tie.Need-loop-less Inv-loop μ-loop
 loop-less c = search needs
 
--- src/main.rt:42:5
 loop-again : tie.Need-loop-again Inv-loop μ-loop
 loop-again c = search needs
 
--- src/main.rt:40:1
 returns-2 : tie.Need-returns-2 Inv-loop μ-loop
 returns-2 c = search needs
 

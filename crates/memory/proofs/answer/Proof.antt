@@ -4,7 +4,7 @@ use native.Mathlib.Omega.{arith}
 use Rattle.model.specs.declared.Request.the-variants.{Configure, Unconfigure, Query}
 use Rattle.model.specs.Memory.{requested, answeredMemory}
 use Rattle.model.proofs.Rules.{sound-facts}
-use Rattle.memory.proofs.Answers.{formed}
+use Rattle.memory.proofs.Laws.{formed}
 use borrow.Author.Needs.{needs}
 use Rattle.memory.proofs.answer.Statement.{statement}
 use Rattle.memory.proofs.answer.Tie as tie

@@ -1,8 +1,4 @@
--- `memory::begin` meets its contract: the removal stored is the one begun, and no reply is written.
--- Assumes nothing.
-use mathlib.Core.Path.{refl}
-use Rattle.wire.specs.BigEndian.{written}
-use Rattle.model.specs.Memory.{begun, beginning}
+use Rattle.memory.proofs.Laws.{begin-silent}
 use borrow.Author.Needs.{needs}
 use Rattle.memory.proofs.begin.Statement.{statement}
 use Rattle.memory.proofs.begin.Tie as tie
@@ -16,14 +12,16 @@ sizes-requires c κs = search needs
 store-removal-requires : tie.Need-store-removal-requires
 store-removal-requires c κs = search needs
 
-made-requires : tie.Need-made-requires
-made-requires c κs = search needs
+begun-requires : tie.Need-begun-requires
+begun-requires c κs = search needs
+
+abbrev at-sizes : tie.After-begun → tie.After-sizes
+at-sizes c = c .before .before .before
 
 returns : tie.Need-returns
-unfolding begun beginning written
-returns c = λ out. record { size = c .made .ensures .0; notes = c .made .ensures .1; state = rw (c .before .store-removal .ensures, c .before .before .before .before .addresses .ensures, c .before .before .before .sizes .ensures); output = refl }
+returns c = let z = at-sizes c in begin-silent _ _ _ _ _ _ _ _ (z .before .addresses .ensures) (z .sizes .ensures) (c .begun .ensures) (c .before .store-removal .ensures)
 
 pub begin-spec : {M : Type 1} → statement M
 begin-spec =
     tie.close
-    (tie.spec addresses-requires sizes-requires store-removal-requires made-requires returns)
+    (tie.spec addresses-requires sizes-requires store-removal-requires begun-requires returns)

@@ -1,5 +1,3 @@
--- `memory::hear_configure` meets its contract: by whether a removal is outstanding.
--- Assumes nothing.
 use mathlib.Core.Path.{sym, _∙_}
 use Rattle.model.specs.Choice.{pick}
 use Rattle.model.specs.Memory.{requested}
@@ -16,9 +14,15 @@ block-requires c κs = search needs
 same-length : tie.Need-same-length
 same-length c = search needs
 
+abbrev taken : tie.After-slice-known2 → tie.Then1
+taken c = c .before .before .before .before .before
+
+abbrev left : tie.After-slice-known3 → tie.Else1
+left c = c .before .before .before .before .before
+
 returns : tie.Need-returns
 unfolding requested pick
-returns c = rw (sym (c .before .before .before .before .before .before .is-outstanding .ensures) ∙ c .before .before .before .before .before .if1 .taken) (c .before .before .block .ensures)
+returns c = let t = taken c in rw (sym (t .before .is-outstanding .ensures) ∙ t .if1 .taken) (c .before .before .block .ensures)
 
 configure-requires : tie.Need-configure-requires
 configure-requires c κs = search needs
@@ -28,7 +32,7 @@ same-length-2 c = search needs
 
 returns-2 : tie.Need-returns-2
 unfolding requested pick
-returns-2 c = rw (sym (c .before .before .before .before .before .before .is-outstanding .ensures) ∙ c .before .before .before .before .before .if1 .left) (c .before .before .configure .ensures)
+returns-2 c = let t = left c in rw (sym (t .before .is-outstanding .ensures) ∙ t .if1 .left) (c .before .before .configure .ensures)
 
 pub hear-configure-spec : {M : Type 1} → statement M
 hear-configure-spec =

@@ -1,8 +1,7 @@
--- `memory::hear_unconfigure` meets its contract: by whether a removal is outstanding.
--- Assumes nothing.
 use mathlib.Core.Path.{sym, _∙_}
 use Rattle.model.specs.Choice.{pick}
 use Rattle.model.specs.Memory.{requested}
+use Rattle.model.proofs.Handlers.{silent-handles}
 use borrow.Author.Needs.{needs}
 use Rattle.memory.proofs.hear_unconfigure.Statement.{statement}
 use Rattle.memory.proofs.hear_unconfigure.Tie as tie
@@ -16,16 +15,22 @@ block-requires c κs = search needs
 same-length : tie.Need-same-length
 same-length c = search needs
 
+abbrev taken : tie.After-slice-known2 → tie.Then1
+taken c = c .before .before .before .before .before
+
+abbrev left : tie.After-begin → tie.Else1
+left c = c .before .before
+
 returns : tie.Need-returns
 unfolding requested pick
-returns c = rw (sym (c .before .before .before .before .before .before .is-outstanding .ensures) ∙ c .before .before .before .before .before .if1 .taken) (c .before .before .block .ensures)
+returns c = let t = taken c in rw (sym (t .before .is-outstanding .ensures) ∙ t .if1 .taken) (c .before .before .block .ensures)
 
 begin-requires : tie.Need-begin-requires
 begin-requires c κs = search needs
 
 returns-2 : tie.Need-returns-2
 unfolding requested pick
-returns-2 c = rw (sym (c .before .before .before .is-outstanding .ensures) ∙ c .before .before .if1 .left) (c .begin .ensures _)
+returns-2 c = let t = left c in rw (sym (t .before .is-outstanding .ensures) ∙ t .if1 .left) (silent-handles _ (c .begin .ensures))
 
 pub hear-unconfigure-spec : {M : Type 1} → statement M
 hear-unconfigure-spec =

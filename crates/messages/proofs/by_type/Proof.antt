@@ -13,13 +13,16 @@ use Rattle.messages.proofs.by_type.Tie as tie
 get32-requires : tie.Need-get32-requires
 get32-requires c κs = let w = well-rules _ (c .before .pre) in omega arith
 
+cast-message-type : tie.Need-cast-message-type
+cast-message-type c = search needs
+
 get16-requires : tie.Need-get16-requires
 get16-requires c κs = let w = well-rules _ (c .before .before .before .pre) in
     let p = init-payload _ (w .1) (sym (c .before .get32 .ensures .0) ∙ c .if1 .taken) in
     omega arith
 
-cast-t6 : tie.Need-cast-t6
-cast-t6 c = search needs
+cast-t7 : tie.Need-cast-t7
+cast-t7 c = search needs
 
 returns : tie.Need-returns
 unfolding decodedByType pick
@@ -35,8 +38,8 @@ get16-requires-2 c κs = let w = well-rules _ (c .before .before .before .before
     let p = ack-payload _ (w .1) (sym (c .before .before .before .get32 .ensures .0) ∙ c .match .keys2) in
     omega arith
 
-cast-t9 : tie.Need-cast-t9
-cast-t9 c = search needs
+cast-t10 : tie.Need-cast-t10
+cast-t10 c = search needs
 
 returns-2 : tie.Need-returns-2
 unfolding decodedByType pick
@@ -69,11 +72,16 @@ returns-8 c = rw (c .before .handle-of .ensures, sym (c .before .before .before 
 
 returns-9 : tie.Need-returns-9
 unfolding decodedByType pick
-returns-9 c =
+returns-9 c = rw (sym (c .before .before .before .get32 .ensures .0) ∙ c .match .keys8)
+
+returns-10 : tie.Need-returns-10
+unfolding decodedByType pick
+returns-10 c =
     let rest = c .match .rest in
     rw (
       ← c .before .before .before .get32 .ensures .0,
       ne-eqb _ _ (c .before .before .if1 .left),
+      ne-eqb _ _ (rest .0 .0 .0 .0 .0 .0 .0 .1),
       ne-eqb _ _ (rest .0 .0 .0 .0 .0 .0 .1),
       ne-eqb _ _ (rest .0 .0 .0 .0 .0 .1),
       ne-eqb _ _ (rest .0 .0 .0 .0 .1),
@@ -88,12 +96,13 @@ by-type-spec =
     tie.close
     (tie.spec
     get32-requires
+    cast-message-type
     get16-requires
-    cast-t6
+    cast-t7
     returns
     handle-of-requires
     get16-requires-2
-    cast-t9
+    cast-t10
     returns-2
     returns-3
     returns-4
@@ -101,4 +110,5 @@ by-type-spec =
     returns-6
     returns-7
     returns-8
-    returns-9)
+    returns-9
+    returns-10)

@@ -12,6 +12,9 @@ use Rattle.messages.proofs.payload_fits.Tie as tie
 get32-requires : tie.Need-get32-requires
 get32-requires c κs = let w = whole-rules _ (c .before .pre) in omega arith
 
+cast-message-type : tie.Need-cast-message-type
+cast-message-type c = search needs
+
 get32-requires-2 : tie.Need-get32-requires-2
 get32-requires-2 c κs = let w = whole-rules _ (c .before .before .pre) in omega arith
 
@@ -57,6 +60,7 @@ payload-fits-spec =
     tie.close
     (tie.spec
     get32-requires
+    cast-message-type
     get32-requires-2
     id-fits-requires
     returns

@@ -1,7 +1,7 @@
 use mathlib.Core.Path.{_∙_, sym}
 use Rattle.model.specs.Calls.{heard}
 use Rattle.messages.proofs.Rules.{data-there}
-use Rattle.reception.proofs.Laws.{silent}
+use Rattle.model.proofs.Handlers.{silent-handles}
 use borrow.Author.Needs.{needs}
 use Rattle.reception.proofs.hear.Statement.{statement}
 use Rattle.reception.proofs.hear.Tie as tie
@@ -27,8 +27,8 @@ acknowledge-requires c κs = search needs
 enum-known-decoded-4 : tie.Need-enum-known-decoded-4
 enum-known-decoded-4 c = search needs
 
-end-offer-requires : tie.Need-end-offer-requires
-end-offer-requires c κs = search needs
+not-acknowledge-requires : tie.Need-not-acknowledge-requires
+not-acknowledge-requires c κs = search needs
 
 enum-known-decoded-5 : tie.Need-enum-known-decoded-5
 enum-known-decoded-5 c = search needs
@@ -39,14 +39,14 @@ unregister-requires c κs = search needs
 enum-told : tie.Need-enum-told
 enum-told c = search needs
 
-note-requires : tie.Need-note-requires
-note-requires c κs = search needs
+only-noted-requires : tie.Need-only-noted-requires
+only-noted-requires c κs = search needs
 
 enum-told-2 : tie.Need-enum-told-2
 enum-told-2 c = search needs
 
-note-requires-2 : tie.Need-note-requires-2
-note-requires-2 c κs = search needs
+only-noted-requires-2 : tie.Need-only-noted-requires-2
+only-noted-requires-2 c κs = search needs
 
 enum-known-decoded-6 : tie.Need-enum-known-decoded-6
 enum-known-decoded-6 c = search needs
@@ -60,8 +60,8 @@ take-data-requires c κs = search needs
 enum-told-3 : tie.Need-enum-told-3
 enum-told-3 c = search needs
 
-note-requires-3 : tie.Need-note-requires-3
-note-requires-3 c κs = search needs
+only-noted-requires-3 : tie.Need-only-noted-requires-3
+only-noted-requires-3 c κs = search needs
 
 enum-told-4 : tie.Need-enum-told-4
 enum-told-4 c = search needs
@@ -85,11 +85,11 @@ returns-2 c = rw (c .before .before .before .before .before .before .decoded2 .g
 
 returns-3 : tie.Need-returns-3
 unfolding heard
-returns-3 c = rw (c .before .before .before .decoded3 .given .1) (silent _ (c .acknowledge .ensures))
+returns-3 c = rw (c .before .before .before .decoded3 .given .1) (silent-handles _ (c .acknowledge .ensures))
 
 returns-4 : tie.Need-returns-4
 unfolding heard
-returns-4 c = rw (c .before .before .before .decoded4 .given .1) (silent _ (c .end-offer .ensures))
+returns-4 c = rw (c .before .before .before .decoded4 .given .1) (silent-handles _ (c .not-acknowledge .ensures))
 
 same-length-3 : tie.Need-same-length-3
 same-length-3 c = search needs
@@ -100,11 +100,11 @@ returns-5 c = rw (c .before .before .before .before .before .before .decoded5 .g
 
 returns-6 : tie.Need-returns-6
 unfolding heard
-returns-6 c = rw (c .before .before .enum-told .given .1) (silent _ (c .note .ensures))
+returns-6 c = rw (c .before .before .enum-told .given .1) (silent-handles _ (c .only-noted .ensures))
 
 returns-7 : tie.Need-returns-7
 unfolding heard
-returns-7 c = rw (c .before .before .enum-told2 .given .1) (silent _ (c .note2 .ensures))
+returns-7 c = rw (c .before .before .enum-told2 .given .1) (silent-handles _ (c .only-noted2 .ensures))
 
 same-length-4 : tie.Need-same-length-4
 same-length-4 c = search needs
@@ -115,11 +115,11 @@ returns-8 c = rw (c .before .before .before .before .before .before .before .dec
 
 returns-9 : tie.Need-returns-9
 unfolding heard
-returns-9 c = rw (c .before .before .enum-told3 .given .1) (silent _ (c .note3 .ensures))
+returns-9 c = rw (c .before .before .enum-told3 .given .1) (silent-handles _ (c .only-noted3 .ensures))
 
 returns-10 : tie.Need-returns-10
 unfolding heard
-returns-10 c = rw (c .before .before .enum-told4 .given .1) (silent _ (c .close .ensures))
+returns-10 c = rw (c .before .before .enum-told4 .given .1) (silent-handles _ (c .close .ensures))
 
 pub hear-spec : {M : Type 1} → statement M
 hear-spec =
@@ -132,18 +132,18 @@ hear-spec =
     enum-known-decoded-3
     acknowledge-requires
     enum-known-decoded-4
-    end-offer-requires
+    not-acknowledge-requires
     enum-known-decoded-5
     unregister-requires
     enum-told
-    note-requires
+    only-noted-requires
     enum-told-2
-    note-requires-2
+    only-noted-requires-2
     enum-known-decoded-6
     payload-requires
     take-data-requires
     enum-told-3
-    note-requires-3
+    only-noted-requires-3
     enum-told-4
     close-requires
     same-length

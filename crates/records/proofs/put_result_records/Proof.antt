@@ -11,9 +11,10 @@ use Rattle.model.proofs.Replies.{result-length}
 use Rattle.records.proofs.Parts.{record-more}
 use Rattle.records.proofs.put_result_records.Statement.{statement}
 use Rattle.records.proofs.put_result_records.Tie as tie
+use Rattle.model.specs.Layout.{replyHeaderBytes, resultBytes}
 
 abbrev Inv-loop : tie.InvT-loop
-Inv-loop state out₀ n address size result i₀ out i = (i ≤ n) × (length out ≡ length out₀) × (out ≡ sets out₀ 32 (joined (λ i. resultRecord state (getD address i 0) (getD size i 0) (getD result i 0)) i))
+Inv-loop state out₀ n address size result i₀ out i = (i ≤ n) × (length out ≡ length out₀) × (out ≡ sets out₀ replyHeaderBytes (joined (λ i. resultRecord state (getD address i 0) (getD size i 0) (getD result i 0)) i))
 
 abbrev μ-loop : tie.MeasureT-loop
 μ-loop state out₀ n address size result i₀ out i = n - i
@@ -88,11 +89,11 @@ loop-again c =
     let c₄ : _ = c .before .before .before .before in
     let c₆ : _ = c₄ .before .before in
     let l = c₆ .loop in
-    let fits : 32 + l .i * 28 + 28 ≤ length (l .out) = omega arith in
-    let span : 32 + l .i * 28 + 28 - (32 + l .i * 28) ≡ 28 = omega arith in (
+    let fits : replyHeaderBytes + l .i * resultBytes + resultBytes ≤ length (l .out) = omega arith in
+    let span : replyHeaderBytes + l .i * resultBytes + resultBytes - (replyHeaderBytes + l .i * resultBytes) ≡ resultBytes = omega arith in (
       omega arith,
       omega arith,
-      record-more _ 28 (λ i. result-length _ _ _ _) _ _ _ _ _ (l .inv .2) (c .before .before .put-result-record .ensures ∙ rw (c₄ .status-of .ensures)) span fits,
+      record-more _ resultBytes (λ i. result-length _ _ _ _) _ _ _ _ _ (l .inv .2) (c .before .before .put-result-record .ensures ∙ rw (c₄ .status-of .ensures)) span fits,
     )
 
 same-length : tie.Need-same-length Inv-loop μ-loop

@@ -1,8 +1,7 @@
--- `records::status_of` meets its contract: the cases of the definition, in its order.
--- Assumes nothing.
 use native.Mathlib.Omega.{arith}
-use mathlib.Core.Path.{sym}
-use Rattle.records.proofs.Parts.{status-unknown, status-configured, status-unconfigured}
+use mathlib.Core.Path.{sym, _∙_}
+use Rattle.model.specs.Memory.{statusAt}
+use Rattle.model.proofs.Sounds.{named-less}
 use borrow.Author.Needs.{needs}
 use Rattle.records.proofs.status_of.Statement.{statement}
 use Rattle.records.proofs.status_of.Tie as tie
@@ -10,28 +9,23 @@ use Rattle.records.proofs.status_of.Tie as tie
 named-block-requires : tie.Need-named-block-requires
 named-block-requires c κs = search needs
 
-blocks-of-requires : tie.Need-blocks-of-requires
-blocks-of-requires c κs = search needs
+enum-known-found : tie.Need-enum-known-found
+enum-known-found c = search needs
+
+status-at-requires : tie.Need-status-at-requires
+status-at-requires c κs = let e = named-less _ _ _ _ (sym (c .before .before .before .named-block .ensures) ∙ c .before .found .given .1) in omega (arith, e)
+
+enum-told : tie.Need-enum-told
+enum-told c = search needs
 
 returns : tie.Need-returns
-returns c = sym (status-unknown _ _ _ _ (c .before .before .named-block .ensures) (omega arith))
-
-configured-of-requires : tie.Need-configured-of-requires
-configured-of-requires c κs = omega arith
+returns c = rw (← c .before .before .before .before .named-block .ensures, c .before .before .found .given .1) (c .status-at .ensures)
 
 returns-2 : tie.Need-returns-2
-returns-2 c = sym (status-configured _ _ _ _ (c .before .before .before .before .named-block .ensures) (omega arith) (omega arith))
-
-returns-3 : tie.Need-returns-3
-returns-3 c = sym (status-unconfigured _ _ _ _ (c .before .before .before .before .named-block .ensures) (omega arith) (λ e. omega arith))
+unfolding statusAt
+returns-2 c = rw (← c .before .before .named-block .ensures, c .enum-told .given .1)
 
 pub status-of-spec : {M : Type 1} → statement M
 status-of-spec =
     tie.close
-    (tie.spec
-    named-block-requires
-    blocks-of-requires
-    returns
-    configured-of-requires
-    returns-2
-    returns-3)
+    (tie.spec named-block-requires enum-known-found status-at-requires enum-told returns returns-2)

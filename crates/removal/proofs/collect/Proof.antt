@@ -1,8 +1,5 @@
--- `removal::collect` meets its contract: the cases of the definition.
--- Assumes nothing.
-use native.Mathlib.Omega.{arith}
-use mathlib.Core.Path.{refl, _∙_}
-use Rattle.removal.proofs.Laws.{collects-last, collects-some}
+use mathlib.Core.Path.{sym, _∙_}
+use Rattle.removal.proofs.Laws.{stored-as, collects-last, collects-some}
 use borrow.Author.Needs.{needs}
 use Rattle.removal.proofs.collect.Statement.{statement}
 use Rattle.removal.proofs.collect.Tie as tie
@@ -20,9 +17,7 @@ settle-requires : tie.Need-settle-requires
 settle-requires c κs = search needs
 
 returns : tie.Need-returns
-returns c =
-    let c₈ : _ = c .before .before .before .before .before .before .before .before in
-    collects-last _ _ _ (c₈ .pre .0) (omega arith) (c .before .before .set-configured .ensures) (c .settle .ensures)
+returns c = let t = c .before .before .before .before in collects-last _ _ _ (t .if1 .taken ∙ t .before .before .pages-of .ensures) (c .before .before .set-configured .ensures) (c .settle .ensures)
 
 collecting-requires : tie.Need-collecting-requires
 collecting-requires c κs = search needs
@@ -30,10 +25,11 @@ collecting-requires c κs = search needs
 store-removal-requires : tie.Need-store-removal-requires
 store-removal-requires c κs = search needs
 
+collected-requires : tie.Need-collected-requires
+collected-requires c κs = search needs
+
 returns-2 : tie.Need-returns-2
-returns-2 c =
-    collects-some _ _ _ (c .before .before .before .before .before .before .before .pre .0) (λ e. omega arith)
-    (record { size = refl; notes = refl; state = c .store-removal .ensures ∙ rw (c .before .collecting .ensures); silent = refl })
+returns-2 c = let t = c .before .before .before .before in collects-some _ _ _ (λ e. t .if1 .left (e ∙ sym (t .before .before .pages-of .ensures))) (stored-as _ _ _ (c .before .store-removal .ensures) (c .before .before .collecting .ensures)) (c .collected .ensures)
 
 pub collect-spec : {M : Type 1} → statement M
 collect-spec =
@@ -46,4 +42,5 @@ collect-spec =
     returns
     collecting-requires
     store-removal-requires
+    collected-requires
     returns-2)

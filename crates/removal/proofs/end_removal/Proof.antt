@@ -1,6 +1,4 @@
--- `removal::end_removal` meets its contract: the cases of the definition.
--- Assumes nothing.
-use mathlib.Core.Path.{refl, sym, _∙_}
+use mathlib.Core.Path.{sym, _∙_}
 use Rattle.removal.proofs.Laws.{ends-replied, ends-silent}
 use borrow.Author.Needs.{needs}
 use Rattle.removal.proofs.end_removal.Statement.{statement}
@@ -18,34 +16,26 @@ put-late-reply-requires c κs = search needs
 clear-removal-requires : tie.Need-clear-removal-requires
 clear-removal-requires c κs = search needs
 
-ended-requires : tie.Need-ended-requires
-ended-requires c κs = search needs
+removal-end-requires : tie.Need-removal-end-requires
+removal-end-requires c κs = search needs
 
 same-length : tie.Need-same-length
 same-length c = search needs
 
+abbrev replied : tie.After-removal-end → tie.After-put-late-reply
+replied c = c .before .before .before .before .before
+
 returns : tie.Need-returns
-returns c =
-    let c₅ : _ = c .before .before .before .before .before in
-    let c₈ : _ = c₅ .before .before .before in
-    let c₉ : _ = c₈ .before in
-    let c₁₁ : _ = c₉ .before .before in
-    ends-replied _ _ _ (sym (c₉ .still-registered .ensures) ∙ c₈ .if1 .taken)
-    (c₁₁ .end-code .ensures)
-    (c₅ .put-late-reply .ensures .0) (c .ended .ensures) (c .before .clear-removal .ensures) (c₅ .put-late-reply .ensures .1)
+returns c = let w = replied c in let t = w .before .before .before in ends-replied _ _ _ (sym (t .before .still-registered .ensures) ∙ t .if1 .taken) (t .before .before .before .end-code .ensures) (w .put-late-reply .ensures) (c .removal-end .ensures) (c .before .clear-removal .ensures)
 
 clear-removal-requires-2 : tie.Need-clear-removal-requires-2
 clear-removal-requires-2 c κs = search needs
 
-ended-requires-2 : tie.Need-ended-requires-2
-ended-requires-2 c κs = search needs
+removal-end-requires-2 : tie.Need-removal-end-requires-2
+removal-end-requires-2 c κs = search needs
 
 returns-2 : tie.Need-returns-2
-returns-2 c =
-    let c₄ : _ = c .before .before .before .before in
-    let c₆ : _ = c₄ .before .before in
-    ends-silent _ _ _ (sym (c₄ .still-registered .ensures) ∙ c .before .before .before .if1 .left)
-    (c₆ .end-code .ensures) refl (c .ended2 .ensures) (c .before .clear-removal2 .ensures) refl
+returns-2 c = let t = c .before .before .before in ends-silent _ _ _ (sym (t .before .still-registered .ensures) ∙ t .if1 .left) (t .before .before .before .end-code .ensures) (c .removal-end2 .ensures) (c .before .clear-removal2 .ensures)
 
 pub end-removal-spec : {M : Type 1} → statement M
 end-removal-spec =
@@ -55,9 +45,9 @@ end-removal-spec =
     still-registered-requires
     put-late-reply-requires
     clear-removal-requires
-    ended-requires
+    removal-end-requires
     same-length
     returns
     clear-removal-requires-2
-    ended-requires-2
+    removal-end-requires-2
     returns-2)

@@ -11,12 +11,13 @@ use Rattle.model.proofs.Choice.{tabulate-at, tabulate-length}
 use Rattle.state.proofs.Runs.{fill-more, fill-done}
 use Rattle.removal.proofs.results.Statement.{statement}
 use Rattle.removal.proofs.results.Tie as tie
+use Rattle.model.specs.Layout.{mostRecords}
 
 abbrev Inv-loop : tie.InvT-loop
-Inv-loop code result position cancelled out₀ i₀ out i = (i ≤ 16) × (out ≡ take i (tabulate (resultBy position result cancelled code) 16) ++ drop i (replicate 16 0))
+Inv-loop code result position cancelled out₀ i₀ out i = (i ≤ mostRecords) × (out ≡ take i (tabulate (resultBy position result cancelled code) mostRecords) ++ drop i (replicate mostRecords 0))
 
 abbrev μ-loop : tie.MeasureT-loop
-μ-loop code result position cancelled out₀ i₀ out i = 16 - i
+μ-loop code result position cancelled out₀ i₀ out i = mostRecords - i
 
 loop-holds : tie.Need-loop-holds Inv-loop μ-loop
 loop-holds c = (omega arith, refl)
@@ -48,17 +49,17 @@ loop-again c =
     let l = c .before .before .loop in
     let a = c₄ .args in
     let f : ℕ → ℕ = resultBy (a .m .position) (a .m .result) (a .m .cancelled) (a .code) in
-    let e = tabulate-length f 16 in
-    let at = tabulate-at f 16 (l .i) 0 (omega arith) in
-    let more = fill-more (replicate 16 0) (tabulate f 16) (l .i) 0 (omega arith) (omega arith) in
+    let e = tabulate-length f mostRecords in
+    let at = tabulate-at f mostRecords (l .i) 0 (omega arith) in
+    let more = fill-more (replicate mostRecords 0) (tabulate f mostRecords) (l .i) 0 (omega arith) (omega arith) in
     (omega arith, rw (l .inv .1, c .result-at .ensures, ← at) more)
 
 returns : tie.Need-returns Inv-loop μ-loop
 returns c =
     let a = c .before .before .before .args in
     let f : ℕ → ℕ = resultBy (a .m .position) (a .m .result) (a .m .cancelled) (a .code) in
-    let e = tabulate-length f 16 in
-    c .before .loop .inv .1 ∙ fill-done (replicate 16 0) (tabulate f 16) (c .before .loop .i) (omega arith) (omega arith)
+    let e = tabulate-length f mostRecords in
+    c .before .loop .inv .1 ∙ fill-done (replicate mostRecords 0) (tabulate f mostRecords) (c .before .loop .i) (omega arith) (omega arith)
 
 pub results-spec : {M : Type 1} → statement M
 results-spec =

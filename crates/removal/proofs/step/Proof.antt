@@ -1,7 +1,6 @@
--- `removal::step` meets its contract: the cases of the definition, by what a sound state gives.
--- Assumes nothing.
+use native.Mathlib.Omega.{arith}
 use mathlib.Core.Path.{sym, _∙_}
-use Rattle.removal.proofs.Laws.{facts, fits, works, step-ends, step-works}
+use Rattle.removal.proofs.Laws.{facts, fits, can-work, not-over, step-over, step-found}
 use borrow.Author.Needs.{needs}
 use Rattle.removal.proofs.step.Statement.{statement}
 use Rattle.removal.proofs.step.Tie as tie
@@ -9,46 +8,43 @@ use Rattle.removal.proofs.step.Tie as tie
 load-removal-requires : tie.Need-load-removal-requires
 load-removal-requires c κs = search needs
 
-ends-requires : tie.Need-ends-requires
-ends-requires c κs =
-    let c₄ : _ = c .before .before .before .before in
-    fits _ _ (c .before .load-removal .ensures) (c₄ .pre .0) (c₄ .pre .1)
+is-over-requires : tie.Need-is-over-requires
+is-over-requires c κs = search needs
 
-end-removal-requires : tie.Need-end-removal-requires
-end-removal-requires c κs =
-    let c₅ : _ = c .before .before .before .before .before in
-    let c₈ : _ = c₅ .before .before .before in
-    (fits _ _ (c₅ .load-removal .ensures) (c₈ .pre .0) (c₈ .pre .1), facts _ _ (c₅ .load-removal .ensures) (c₈ .pre .0) (c₈ .pre .1) .channels, c₈ .pre .4)
+abbrev at-over : tie.After-is-over → tie.After-load-removal
+at-over c = c .before
+
+end-step-requires : tie.Need-end-step-requires
+end-step-requires c κs = let m = at-over (c .before .before .before) in let p = m .before .before .before .pre in (fits _ _ (m .load-removal .ensures) (p .0) (p .1), facts _ _ (m .load-removal .ensures) (p .0) (p .1) .channels, p .2)
 
 same-length : tie.Need-same-length
 same-length c = search needs
 
 returns : tie.Need-returns
-returns c =
-    let c₅ : _ = c .before .before .before .before .before in
-    let c₆ : _ = c₅ .before in
-    let c₈ : _ = c₆ .before .before in
-    step-ends _ _ _ _ (c₈ .load-removal .ensures) (sym (c₆ .ends .ensures) ∙ c₅ .if1 .taken) (c .before .before .end-removal .ensures)
+returns c = let t = c .before .before .before .before .before in step-over _ _ _ _ (t .before .before .load-removal .ensures) (sym (t .before .is-over .ensures) ∙ t .if1 .taken) (c .before .before .end-step .ensures)
 
-work-on-requires : tie.Need-work-on-requires
-work-on-requires c κs =
-    let c₄ : _ = c .before .before .before .before in
-    let c₇ : _ = c₄ .before .before .before in
-    works _ _ (c₄ .load-removal .ensures) (c₇ .pre .0) (c₇ .pre .1) (sym (c .before .before .ends .ensures) ∙ c .before .if1 .left)
+block-now-requires : tie.Need-block-now-requires
+block-now-requires c κs = let t = c .before in let m = at-over (t .before) in let p = m .before .before .before .pre in let f = fits _ _ (m .load-removal .ensures) (p .0) (p .1) in (f .blocks, omega (arith, f .records, not-over (m .load-removal .result) (sym (t .before .is-over .ensures) ∙ t .if1 .left)))
+
+work-found-requires : tie.Need-work-found-requires
+work-found-requires c κs = let t = c .before .before .before .before in let m = at-over (t .before) in let p = m .before .before .before .pre in (can-work _ _ (m .load-removal .ensures) (p .0) (p .1) (sym (t .before .is-over .ensures) ∙ t .if1 .left), sym (c .before .before .block-now .ensures), p .2)
+
+same-length-2 : tie.Need-same-length-2
+same-length-2 c = search needs
 
 returns-2 : tie.Need-returns-2
-returns-2 c =
-    let c₅ : _ = c .before .before .before .before .before in
-    step-works _ _ _ _ (c₅ .load-removal .ensures) (sym (c .before .before .before .ends .ensures) ∙ c .before .before .if1 .left) (c .work-on .ensures)
+returns-2 c = let t = c .before .before .before .before .before .before .before in step-found _ _ _ _ (t .before .before .load-removal .ensures) (sym (t .before .is-over .ensures) ∙ t .if1 .left) (c .before .before .before .before .before .block-now .ensures) (c .before .before .work-found .ensures)
 
 pub step-spec : {M : Type 1} → statement M
 step-spec =
     tie.close
     (tie.spec
     load-removal-requires
-    ends-requires
-    end-removal-requires
+    is-over-requires
+    end-step-requires
     same-length
     returns
-    work-on-requires
+    block-now-requires
+    work-found-requires
+    same-length-2
     returns-2)

@@ -12,6 +12,9 @@ returns c = short-is _ (c .if1 .taken)
 get32-requires : tie.Need-get32-requires
 get32-requires c κs = search needs
 
+cast-kind : tie.Need-cast-kind
+cast-kind c = search needs
+
 has-nothing-requires : tie.Need-has-nothing-requires
 has-nothing-requires c κs = search needs
 
@@ -46,6 +49,7 @@ decode-spec =
     (tie.spec
     returns
     get32-requires
+    cast-kind
     has-nothing-requires
     returns-2
     returns-3

@@ -3,9 +3,6 @@ use Prim.Native.Nat.{_≤_, _-_}
 use lib.ListN.{length}
 use Rattle.calls.proofs.list.take_piece.Statement.{statement}
 use Rattle.calls.proofs.list.take_piece.Tie as tie
-use Rattle.calls.proofs.list.take_piece.Reads as reads
-use Rattle.calls.proofs.list.take_piece.Lts as lts
-use Rattle.calls.proofs.list.take_byte.Reads as take-byte-reads
 
 abbrev Inv-loop : tie.InvT-loop
 Inv-loop piece line₀ state₀ journal₀ text₀ used₀ next₀ i₀ line state journal text used next i = i ≤ length piece
@@ -13,31 +10,24 @@ Inv-loop piece line₀ state₀ journal₀ text₀ used₀ next₀ i₀ line sta
 abbrev μ-loop : tie.MeasureT-loop
 μ-loop piece line₀ state₀ journal₀ text₀ used₀ next₀ i₀ line state journal text used next i = length piece - i
 
--- src/list.rt:201:5
 loop-holds : tie.Need-loop-holds Inv-loop μ-loop
 loop-holds c = search needs
 
--- src/list.rt:202:26
 shared-slice-read-take-byte : tie.Need-shared-slice-read-take-byte Inv-loop μ-loop
 shared-slice-read-take-byte c = search needs
 
--- src/list.rt:202:9
 take-byte-requires : tie.Need-take-byte-requires Inv-loop μ-loop
 take-byte-requires c κs = search needs
 
--- src/list.rt:203:9
 add-i : tie.Need-add-i Inv-loop μ-loop
 add-i c = search needs
 
--- src/list.rt:201:5
 loop-less : tie.Need-loop-less Inv-loop μ-loop
 loop-less c = search needs
 
--- src/list.rt:201:5
 loop-again : tie.Need-loop-again Inv-loop μ-loop
 loop-again c = search needs
 
--- src/list.rt:190:1
 returns : tie.Need-returns Inv-loop μ-loop
 returns c = search needs
 

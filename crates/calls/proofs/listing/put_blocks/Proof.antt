@@ -2,11 +2,6 @@ use borrow.Author.Needs.{needs}
 use Prim.Native.Nat.{_≤_, _-_}
 use Rattle.calls.proofs.listing.put_blocks.Statement.{statement}
 use Rattle.calls.proofs.listing.put_blocks.Tie as tie
-use Rattle.calls.proofs.listing.put_blocks.Reads as reads
-use Rattle.calls.proofs.listing.put_blocks.Lts as lts
-use Rattle.calls.proofs.listing.put_block.Reads as put-block-reads
-use Rattle.lines.proofs.parts.lower.Reads as lower-reads
-use Rattle.state.proofs.blocks_of.Reads as blocks-of-reads
 
 abbrev Inv-loop : tie.InvT-loop
 Inv-loop text₀ used₀ state count i₀ text used i = i ≤ count
@@ -14,35 +9,27 @@ Inv-loop text₀ used₀ state count i₀ text used i = i ≤ count
 abbrev μ-loop : tie.MeasureT-loop
 μ-loop text₀ used₀ state count i₀ text used i = count - i
 
--- src/listing.rt:58:23
 blocks-of-requires : tie.Need-blocks-of-requires Inv-loop μ-loop
 blocks-of-requires c κs = search needs
 
--- src/listing.rt:58:9
 lower-requires : tie.Need-lower-requires Inv-loop μ-loop
 lower-requires c κs = search needs
 
--- src/listing.rt:60:5
 loop-holds : tie.Need-loop-holds Inv-loop μ-loop
 loop-holds c = search needs
 
--- src/listing.rt:61:9
 put-block-requires : tie.Need-put-block-requires Inv-loop μ-loop
 put-block-requires c κs = search needs
 
--- src/listing.rt:62:9
 add-i : tie.Need-add-i Inv-loop μ-loop
 add-i c = search needs
 
--- src/listing.rt:60:5
 loop-less : tie.Need-loop-less Inv-loop μ-loop
 loop-less c = search needs
 
--- src/listing.rt:60:5
 loop-again : tie.Need-loop-again Inv-loop μ-loop
 loop-again c = search needs
 
--- src/listing.rt:57:1
 returns : tie.Need-returns Inv-loop μ-loop
 returns c = search needs
 

@@ -11,9 +11,6 @@ use Rattle.lines.specs.Fields.{byteOf, isByte}
 use Rattle.lines.proofs.Bytes.{table-more, no-pair, a-pair, none-to-read, odd-to-read, no-room, bad-pair, all-read}
 use Rattle.lines.proofs.fields.bytes_in.Statement.{statement}
 use Rattle.lines.proofs.fields.bytes_in.Tie as tie
-use Rattle.lines.proofs.fields.bytes_in.Reads as reads
-use Rattle.lines.proofs.fields.bytes_in.Lts as lts
-use Rattle.lines.proofs.fields.pair.Reads as pair-reads
 
 abbrev Inv-loop : tie.InvT-loop
 Inv-loop field into₀ count i₀ into i =
@@ -22,81 +19,62 @@ Inv-loop field into₀ count i₀ into i =
 abbrev μ-loop : tie.MeasureT-loop
 μ-loop field into₀ count i₀ into i = count - i
 
--- src/fields.rt:149:9
 returns : tie.Need-returns Inv-loop μ-loop
 returns c = none-to-read _ _ _ (c .if1 .taken)
 
--- src/fields.rt:152:9
 returns-2 : tie.Need-returns-2 Inv-loop μ-loop
 returns-2 c = odd-to-read _ _ _ (c .if2 .taken)
 
--- src/fields.rt:155:9
 returns-3 : tie.Need-returns-3 Inv-loop μ-loop
 returns-3 c = no-room _ _ _ (c .if3 .taken)
 
--- src/fields.rt:158:5
 loop-holds : tie.Need-loop-holds Inv-loop μ-loop
 unfolding tabulate
 loop-holds c = (omega arith, refl, every-none _, refl)
 
--- src/fields.rt:159:43
 mul-pair : tie.Need-mul-pair Inv-loop μ-loop
 mul-pair c = search needs
 
--- src/fields.rt:159:37
 shared-slice-read-pair : tie.Need-shared-slice-read-pair Inv-loop μ-loop
 shared-slice-read-pair c = search needs
 
--- src/fields.rt:159:57
 mul-pair-2 : tie.Need-mul-pair-2 Inv-loop μ-loop
 mul-pair-2 c = search needs
 
--- src/fields.rt:159:57
 add-pair : tie.Need-add-pair Inv-loop μ-loop
 add-pair c = search needs
 
--- src/fields.rt:159:51
 shared-slice-read-pair-2 : tie.Need-shared-slice-read-pair-2 Inv-loop μ-loop
 shared-slice-read-pair-2 c = search needs
 
--- src/fields.rt:159:32
 pair-requires : tie.Need-pair-requires Inv-loop μ-loop
 pair-requires c κs = search needs
 
--- src/fields.rt:159:27
 enum-known-b : tie.Need-enum-known-b Inv-loop μ-loop
 enum-known-b c = search needs
 
--- src/fields.rt:160:13
 enum-told : tie.Need-enum-told Inv-loop μ-loop
 enum-told c = search needs
 
--- src/fields.rt:160:13
 same-length : tie.Need-same-length Inv-loop μ-loop
 same-length c = c .before .before .before .before .before .before .loop .inv .1
 
--- src/fields.rt:160:13
 returns-4 : tie.Need-returns-4 Inv-loop μ-loop
 returns-4 c =
     bad-pair _ _ _ (c .before .before .before .before .before .before .loop .i) (omega arith) (no-pair _ _ (sym (c .before .before .pair .ensures) ∙ c .enum-told .given .1))
 
--- src/fields.rt:162:19
 cast-into : tie.Need-cast-into Inv-loop μ-loop
 cast-into c = search needs
 
--- src/fields.rt:162:9
 slice-write-into : tie.Need-slice-write-into Inv-loop μ-loop
 slice-write-into c = search needs
 
--- src/fields.rt:163:9
 add-i : tie.Need-add-i Inv-loop μ-loop
 add-i c = search needs
 
--- src/fields.rt:158:5
 loop-less : tie.Need-loop-less Inv-loop μ-loop
 loop-less c = search needs
 
--- src/fields.rt:158:5
 loop-again : tie.Need-loop-again Inv-loop μ-loop
 loop-again c =
     let start = c .before .before .before .before .before .before .before .before .before .before .before .before .before in
@@ -113,11 +91,9 @@ loop-again c =
           ∙ table-more (λ k. byteOf field k) into (loop .i) (omega (arith, loop .inv .1)),
     )
 
--- src/fields.rt:144:1
 same-length-2 : tie.Need-same-length-2 Inv-loop μ-loop
 same-length-2 c = c .before .loop .inv .1
 
--- src/fields.rt:144:1
 returns-5 : tie.Need-returns-5 Inv-loop μ-loop
 returns-5 c =
     all-read _ _ _ (c .before .loop .i) (c .before .before .before .before .if1 .left) (c .before .before .before .if2 .left)

@@ -9,9 +9,6 @@ use Rattle.lines.specs.Fields.{valueOf, areDigits, appended}
 use Rattle.lines.proofs.Numbers.{no-digits, stops, goes-on, ended}
 use Rattle.lines.proofs.fields.digits.Statement.{statement}
 use Rattle.lines.proofs.fields.digits.Tie as tie
-use Rattle.lines.proofs.fields.digits.Reads as reads
-use Rattle.lines.proofs.fields.digits.Lts as lts
-use Rattle.lines.proofs.fields.with_digit.Reads as with-digit-reads
 
 abbrev Inv-loop : tie.InvT-loop
 Inv-loop hexadecimal field value₀ i₀ value i =
@@ -20,32 +17,25 @@ Inv-loop hexadecimal field value₀ i₀ value i =
 abbrev μ-loop : tie.MeasureT-loop
 μ-loop hexadecimal field value₀ i₀ value i = length field - i
 
--- src/fields.rt:98:9
 returns : tie.Need-returns Inv-loop μ-loop
 returns c = no-digits _ _ (c .if1 .taken)
 
--- src/fields.rt:102:5
 loop-holds : tie.Need-loop-holds Inv-loop μ-loop
 unfolding valueOf every
 loop-holds c = (omega arith, refl, refl, omega arith)
 
--- src/fields.rt:103:66
 shared-slice-read-with-digit : tie.Need-shared-slice-read-with-digit Inv-loop μ-loop
 shared-slice-read-with-digit c = omega arith
 
--- src/fields.rt:103:35
 with-digit-requires : tie.Need-with-digit-requires Inv-loop μ-loop
 with-digit-requires c κs = search needs
 
--- src/fields.rt:103:27
 enum-known-more : tie.Need-enum-known-more Inv-loop μ-loop
 enum-known-more c = search needs
 
--- src/fields.rt:104:13
 enum-told : tie.Need-enum-told Inv-loop μ-loop
 enum-told c = search needs
 
--- src/fields.rt:104:13
 returns-2 : tie.Need-returns-2 Inv-loop μ-loop
 returns-2 c =
     let start = c .before .before .before .before .before .before .before .before in
@@ -55,15 +45,12 @@ returns-2 c =
     let e = ap (λ v. appended h v (getD field (loop .i) 0)) (sym (loop .inv .1)) ∙ sym (c .before .before .with-digit .ensures) ∙ c .enum-told .given .1 in
     stops h field (loop .i) (omega arith) e
 
--- src/fields.rt:107:9
 add-i : tie.Need-add-i Inv-loop μ-loop
 add-i c = omega arith
 
--- src/fields.rt:102:5
 loop-less : tie.Need-loop-less Inv-loop μ-loop
 loop-less c = omega arith
 
--- src/fields.rt:102:5
 loop-again : tie.Need-loop-again Inv-loop μ-loop
 loop-again c =
     let start = c .before .before .before .before .before .before .before .before .before in
@@ -74,7 +61,6 @@ loop-again c =
     let q = goes-on h field (loop .i) (c .before .more .given .0 .0) (loop .inv .2) e in
     (omega arith, q .0, q .1, q .2)
 
--- src/fields.rt:94:1
 returns-3 : tie.Need-returns-3 Inv-loop μ-loop
 returns-3 c =
     let start = c .before .before .before .before in

@@ -9,8 +9,6 @@ use Rattle.model.specs.Choice.{every}
 use Rattle.model.proofs.Loops.{every-none, every-more, every-fails, every-all}
 use Rattle.lines.proofs.fields.is_blank.Statement.{statement}
 use Rattle.lines.proofs.fields.is_blank.Tie as tie
-use Rattle.lines.proofs.fields.is_blank.Reads as reads
-use Rattle.lines.proofs.fields.is_blank.Lts as lts
 
 abbrev Inv-loop : tie.InvT-loop
 Inv-loop line i₀ i = (i ≤ length line) × (every i (λ k. eqb (getD line k 0) 32) ≡ true)
@@ -18,33 +16,26 @@ Inv-loop line i₀ i = (i ≤ length line) × (every i (λ k. eqb (getD line k 0
 abbrev μ-loop : tie.MeasureT-loop
 μ-loop line i₀ i = length line - i
 
--- src/fields.rt:192:5
 loop-holds : tie.Need-loop-holds Inv-loop μ-loop
 loop-holds c = (omega arith, every-none _)
 
--- src/fields.rt:193:12
 shared-slice-read-if1 : tie.Need-shared-slice-read-if1 Inv-loop μ-loop
 shared-slice-read-if1 c = omega arith
 
--- src/fields.rt:194:13
 returns : tie.Need-returns Inv-loop μ-loop
 returns c =
     every-fails (λ k. eqb (getD (c .before .before .before .before .args .line .now) k 0) 32) _ (c .before .before .before .loop .i) (omega arith)
     (ne-eqb _ 32 (c .if1 .taken))
 
--- src/fields.rt:196:9
 add-i : tie.Need-add-i Inv-loop μ-loop
 add-i c = omega arith
 
--- src/fields.rt:192:5
 loop-less : tie.Need-loop-less Inv-loop μ-loop
 loop-less c = omega arith
 
--- src/fields.rt:192:5
 loop-again : tie.Need-loop-again Inv-loop μ-loop
 loop-again c = (omega arith, every-more _ _ (c .before .before .before .loop .inv .1) (eq-eqb _ 32 (c .if1 .left)))
 
--- src/fields.rt:188:1
 returns-2 : tie.Need-returns-2 Inv-loop μ-loop
 returns-2 c = every-all (λ k. eqb (getD (c .before .before .args .line .now) k 0) 32) _ (c .before .loop .i) (omega arith) (omega arith) (c .before .loop .inv .1)
 

@@ -6,19 +6,14 @@ use Rattle.lines.specs.Fields.{isComment}
 use borrow.Author.Needs.{needs}
 use Rattle.lines.proofs.fields.is_comment.Statement.{statement}
 use Rattle.lines.proofs.fields.is_comment.Tie as tie
-use Rattle.lines.proofs.fields.is_comment.Reads as reads
-use Rattle.lines.proofs.fields.is_comment.Lts as lts
 
--- src/fields.rt:182:9
 returns : tie.Need-returns
 unfolding isComment _and_
 returns c = rw (le-ltb 0 (length (c .before .args .line .now)) (omega (arith, c .if1 .taken)))
 
--- src/fields.rt:184:5
 shared-slice-read-result : tie.Need-shared-slice-read-result
 shared-slice-read-result c = search needs
 
--- src/fields.rt:178:1
 returns-2 : tie.Need-returns-2
 unfolding isComment _and_
 returns-2 c = rw (lt-ltb 0 (length (c .before .before .args .line .now)) (omega (arith, c .before .if1 .left)))

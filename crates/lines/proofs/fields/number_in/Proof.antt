@@ -10,66 +10,50 @@ use Rattle.lines.specs.Fields.{numberIn, isPrefixed, digitsIn}
 use borrow.Author.Needs.{needs}
 use Rattle.lines.proofs.fields.number_in.Statement.{statement}
 use Rattle.lines.proofs.fields.number_in.Tie as tie
-use Rattle.lines.proofs.fields.number_in.Reads as reads
-use Rattle.lines.proofs.fields.number_in.Lts as lts
-use Rattle.lines.proofs.fields.digits.Reads as digits-reads
 
--- src/fields.rt:117:9
 digits-requires : tie.Need-digits-requires
 digits-requires c κs = search needs
 
--- src/fields.rt:117:9
 returns : tie.Need-returns
 unfolding numberIn isPrefixed
 returns c = c .digits .ensures ∙ sym (pick-false _ _ _ (and-false _ _ (lt-leb 2 _ (c .before .if1 .taken))))
 
--- src/fields.rt:119:8
 shared-slice-read-if2 : tie.Need-shared-slice-read-if2
 shared-slice-read-if2 c = search needs
 
--- src/fields.rt:120:9
 digits-requires-2 : tie.Need-digits-requires-2
 digits-requires-2 c κs = search needs
 
--- src/fields.rt:120:9
 returns-2 : tie.Need-returns-2
 unfolding numberIn isPrefixed
 returns-2 c =
     c .digits2 .ensures
     ∙ sym (pick-false _ _ _ (and-false-right _ _ (and-false _ _ (ne-eqb _ 48 (c .before .if2 .taken)))))
 
--- src/fields.rt:122:8
 shared-slice-read-if3 : tie.Need-shared-slice-read-if3
 shared-slice-read-if3 c = search needs
 
--- src/fields.rt:123:9
 digits-requires-3 : tie.Need-digits-requires-3
 digits-requires-3 c κs = search needs
 
--- src/fields.rt:123:9
 returns-3 : tie.Need-returns-3
 unfolding numberIn isPrefixed
 returns-3 c =
     c .digits3 .ensures
     ∙ sym (pick-false _ _ _ (and-false-right _ _ (and-false-right _ _ (ne-eqb _ 120 (c .before .if3 .taken)))))
 
--- src/fields.rt:125:18
 sub-digits : tie.Need-sub-digits
 sub-digits c = search needs
 
--- src/fields.rt:125:18
 part-digits-start : tie.Need-part-digits-start
 part-digits-start c = search needs
 
--- src/fields.rt:125:18
 part-digits-end : tie.Need-part-digits-end
 part-digits-end c = search needs
 
--- src/fields.rt:125:5
 digits-requires-4 : tie.Need-digits-requires-4
 digits-requires-4 c κs = search needs
 
--- src/fields.rt:113:1
 returns-4 : tie.Need-returns-4
 unfolding numberIn isPrefixed
 returns-4 c =

@@ -4,40 +4,28 @@ use Rattle.lines.proofs.Bytes.{no-high, no-low, both-digits}
 use borrow.Author.Needs.{needs}
 use Rattle.lines.proofs.fields.pair.Statement.{statement}
 use Rattle.lines.proofs.fields.pair.Tie as tie
-use Rattle.lines.proofs.fields.pair.Reads as reads
-use Rattle.lines.proofs.fields.pair.Lts as lts
-use Rattle.lines.proofs.fields.digit.Reads as digit-reads
-use Rattle.lines.proofs.fields.wide.Reads as wide-reads
 
--- src/fields.rt:132:9
 digit-requires : tie.Need-digit-requires
 digit-requires c κs = search needs
 
--- src/fields.rt:133:9
 digit-requires-2 : tie.Need-digit-requires-2
 digit-requires-2 c κs = search needs
 
--- src/fields.rt:135:9
 returns : tie.Need-returns
 returns c = no-high _ _ (omega (arith, c .before .before .digit .ensures, c .if1 .taken))
 
--- src/fields.rt:138:9
 returns-2 : tie.Need-returns-2
 returns-2 c = no-low _ _ (omega (arith, c .before .before .digit2 .ensures, c .if2 .taken))
 
--- src/fields.rt:140:24
 mul-wide : tie.Need-mul-wide
 mul-wide c = search needs
 
--- src/fields.rt:140:24
 add-wide : tie.Need-add-wide
 add-wide c = search needs
 
--- src/fields.rt:140:19
 wide-requires : tie.Need-wide-requires
 wide-requires c κs = search needs
 
--- src/fields.rt:129:1
 returns-3 : tie.Need-returns-3
 unfolding pairOf
 returns-3 c =

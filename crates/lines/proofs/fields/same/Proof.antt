@@ -11,8 +11,6 @@ use Rattle.model.proofs.Loops.{every-none, every-more, every-fails, every-all}
 use Rattle.lines.specs.Fields.{areSame}
 use Rattle.lines.proofs.fields.same.Statement.{statement}
 use Rattle.lines.proofs.fields.same.Tie as tie
-use Rattle.lines.proofs.fields.same.Reads as reads
-use Rattle.lines.proofs.fields.same.Lts as lts
 
 abbrev Inv-loop : tie.InvT-loop
 Inv-loop a b i₀ i = (i ≤ length a) × (every i (λ k. eqb (getD a k 0) (getD b k 0)) ≡ true)
@@ -20,24 +18,19 @@ Inv-loop a b i₀ i = (i ≤ length a) × (every i (λ k. eqb (getD a k 0) (getD
 abbrev μ-loop : tie.MeasureT-loop
 μ-loop a b i₀ i = length a - i
 
--- src/fields.rt:213:9
 returns : tie.Need-returns Inv-loop μ-loop
 unfolding areSame
 returns c = sym (and-false _ _ (ne-eqb _ _ (c .if1 .taken)))
 
--- src/fields.rt:216:5
 loop-holds : tie.Need-loop-holds Inv-loop μ-loop
 loop-holds c = (omega arith, every-none _)
 
--- src/fields.rt:217:12
 shared-slice-read-if2 : tie.Need-shared-slice-read-if2 Inv-loop μ-loop
 shared-slice-read-if2 c = omega arith
 
--- src/fields.rt:217:20
 shared-slice-read-if2-2 : tie.Need-shared-slice-read-if2-2 Inv-loop μ-loop
 shared-slice-read-if2-2 c = omega arith
 
--- src/fields.rt:218:13
 returns-2 : tie.Need-returns-2 Inv-loop μ-loop
 unfolding areSame
 returns-2 c =
@@ -45,19 +38,15 @@ returns-2 c =
     let b = c .before .before .before .before .before .before .args .b .now in
     sym (and-false-right _ _ (sym (every-fails (λ k. eqb (getD a k 0) (getD b k 0)) (length a) (c .before .before .before .before .loop .i) (omega arith) (ne-eqb _ _ (c .if2 .taken)))))
 
--- src/fields.rt:220:9
 add-i : tie.Need-add-i Inv-loop μ-loop
 add-i c = omega arith
 
--- src/fields.rt:216:5
 loop-less : tie.Need-loop-less Inv-loop μ-loop
 loop-less c = omega arith
 
--- src/fields.rt:216:5
 loop-again : tie.Need-loop-again Inv-loop μ-loop
 loop-again c = (omega arith, every-more _ _ (c .before .before .before .before .loop .inv .1) (eq-eqb _ _ (c .if2 .left)))
 
--- src/fields.rt:209:1
 returns-3 : tie.Need-returns-3 Inv-loop μ-loop
 unfolding areSame
 returns-3 c =

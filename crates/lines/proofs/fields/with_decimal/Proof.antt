@@ -1,51 +1,38 @@
 use mathlib.Core.Bool.{false}
 use native.Mathlib.Omega.{arith}
-use Rattle.lines.specs.Fields.{baseOf, digitOf}
+use Rattle.lines.specs.Fields.{baseOf}
 use Rattle.lines.proofs.Numbers.{no-digit, too-large, one-more}
 use borrow.Author.Needs.{needs}
 use Rattle.lines.proofs.fields.with_decimal.Statement.{statement}
 use Rattle.lines.proofs.fields.with_decimal.Tie as tie
-use Rattle.lines.proofs.fields.with_decimal.Reads as reads
-use Rattle.lines.proofs.fields.with_decimal.Lts as lts
-use Rattle.lines.proofs.fields.digit.Reads as digit-reads
-use Rattle.lines.proofs.fields.wide.Reads as wide-reads
 
--- src/fields.rt:56:18
 digit-requires : tie.Need-digit-requires
 digit-requires c κs = search needs
 
--- src/fields.rt:56:9
 wide-requires : tie.Need-wide-requires
 wide-requires c κs = search needs
 
--- src/fields.rt:58:9
 returns : tie.Need-returns
 unfolding baseOf
 returns c = no-digit false _ _ (omega (arith, c .before .wide .ensures, c .before .before .digit .ensures, c .if1 .taken))
 
--- src/fields.rt:61:9
 returns-2 : tie.Need-returns-2
 unfolding baseOf
 returns-2 c = too-large false _ _ (omega (arith, c .if2 .taken))
 
--- src/fields.rt:63:16
 mul-tens : tie.Need-mul-tens
 mul-tens c = search needs
 
--- src/fields.rt:64:8
 sub-if3 : tie.Need-sub-if3
 sub-if3 c = search needs
 
--- src/fields.rt:65:9
 returns-3 : tie.Need-returns-3
 unfolding baseOf
 returns-3 c = too-large false _ _ (omega (arith, c .before .before .before .wide .ensures, c .before .before .before .before .digit .ensures, c .if3 .taken))
 
--- src/fields.rt:67:19
 add-t7 : tie.Need-add-t7
 add-t7 c = search needs
 
--- src/fields.rt:53:1
 returns-4 : tie.Need-returns-4
 unfolding baseOf
 returns-4 c =

@@ -5,38 +5,27 @@ use Rattle.lines.proofs.Numbers.{no-digit, too-large, one-more}
 use borrow.Author.Needs.{needs}
 use Rattle.lines.proofs.fields.with_hexadecimal.Statement.{statement}
 use Rattle.lines.proofs.fields.with_hexadecimal.Tie as tie
-use Rattle.lines.proofs.fields.with_hexadecimal.Reads as reads
-use Rattle.lines.proofs.fields.with_hexadecimal.Lts as lts
-use Rattle.lines.proofs.fields.digit.Reads as digit-reads
-use Rattle.lines.proofs.fields.wide.Reads as wide-reads
 
--- src/fields.rt:74:18
 digit-requires : tie.Need-digit-requires
 digit-requires c κs = search needs
 
--- src/fields.rt:74:9
 wide-requires : tie.Need-wide-requires
 wide-requires c κs = search needs
 
--- src/fields.rt:76:9
 returns : tie.Need-returns
 unfolding baseOf
 returns c = no-digit true _ _ (omega (arith, c .before .wide .ensures, c .before .before .digit .ensures, c .if1 .taken))
 
--- src/fields.rt:79:9
 returns-2 : tie.Need-returns-2
 unfolding baseOf
 returns-2 c = too-large true _ _ (omega (arith, c .if2 .taken))
 
--- src/fields.rt:81:19
 mul-t6 : tie.Need-mul-t6
 mul-t6 c = search needs
 
--- src/fields.rt:81:19
 add-t7 : tie.Need-add-t7
 add-t7 c = search needs
 
--- src/fields.rt:71:1
 returns-3 : tie.Need-returns-3
 unfolding baseOf
 returns-3 c =

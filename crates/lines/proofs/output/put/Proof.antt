@@ -3,9 +3,6 @@ use Prim.Native.Nat.{_≤_, _-_}
 use lib.ListN.{length}
 use Rattle.lines.proofs.output.put.Statement.{statement}
 use Rattle.lines.proofs.output.put.Tie as tie
-use Rattle.lines.proofs.output.put.Reads as reads
-use Rattle.lines.proofs.output.put.Lts as lts
-use Rattle.lines.proofs.output.put_byte.Reads as put-byte-reads
 
 abbrev Inv-loop : tie.InvT-loop
 Inv-loop text₀ used₀ bytes i₀ text used i = i ≤ length bytes
@@ -13,31 +10,24 @@ Inv-loop text₀ used₀ bytes i₀ text used i = i ≤ length bytes
 abbrev μ-loop : tie.MeasureT-loop
 μ-loop text₀ used₀ bytes i₀ text used i = length bytes - i
 
--- src/output.rt:33:5
 loop-holds : tie.Need-loop-holds Inv-loop μ-loop
 loop-holds c = search needs
 
--- src/output.rt:34:30
 shared-slice-read-put-byte : tie.Need-shared-slice-read-put-byte Inv-loop μ-loop
 shared-slice-read-put-byte c = search needs
 
--- src/output.rt:34:9
 put-byte-requires : tie.Need-put-byte-requires Inv-loop μ-loop
 put-byte-requires c κs = search needs
 
--- src/output.rt:35:9
 add-i : tie.Need-add-i Inv-loop μ-loop
 add-i c = search needs
 
--- src/output.rt:33:5
 loop-less : tie.Need-loop-less Inv-loop μ-loop
 loop-less c = search needs
 
--- src/output.rt:33:5
 loop-again : tie.Need-loop-again Inv-loop μ-loop
 loop-again c = search needs
 
--- src/output.rt:31:1
 returns : tie.Need-returns Inv-loop μ-loop
 returns c = search needs
 

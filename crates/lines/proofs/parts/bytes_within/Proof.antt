@@ -2,14 +2,10 @@ use native.Mathlib.Omega.{arith}
 use Rattle.lines.proofs.Counted.{counted}
 use Rattle.lines.proofs.parts.bytes_within.Statement.{statement}
 use Rattle.lines.proofs.parts.bytes_within.Tie as tie
-use Rattle.lines.proofs.parts.bytes_within.Reads as reads
-use Rattle.lines.proofs.parts.bytes_within.Lts as lts
 
--- src/parts.rt:8:9
 returns : tie.Need-returns
 returns c = (omega arith, counted _ _ (omega arith))
 
--- src/parts.rt:4:1
 returns-2 : tie.Need-returns-2
 returns-2 c = (omega arith, counted _ _ (omega arith))
 

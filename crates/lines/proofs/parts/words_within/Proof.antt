@@ -2,14 +2,10 @@ use native.Mathlib.Omega.{arith}
 use Rattle.lines.proofs.Counted.{counted}
 use Rattle.lines.proofs.parts.words_within.Statement.{statement}
 use Rattle.lines.proofs.parts.words_within.Tie as tie
-use Rattle.lines.proofs.parts.words_within.Reads as reads
-use Rattle.lines.proofs.parts.words_within.Lts as lts
 
--- src/parts.rt:17:9
 returns : tie.Need-returns
 returns c = (omega arith, counted _ _ (omega arith))
 
--- src/parts.rt:13:1
 returns-2 : tie.Need-returns-2
 returns-2 c = (omega arith, counted _ _ (omega arith))
 

@@ -1,0 +1,15 @@
+-- `configuration::bit` meets its contract: the shift at each of the sixteen blocks.
+-- Assumes nothing.
+use Rattle.configuration.proofs.Laws.{bit-is}
+use borrow.Author.Needs.{needs}
+use Rattle.configuration.proofs.bit.Statement.{statement}
+use Rattle.configuration.proofs.bit.Tie as tie
+
+shl-result : tie.Need-shl-result
+shl-result c = search needs
+
+returns : tie.Need-returns
+returns c = bit-is _ (c .pre)
+
+pub bit-spec : {M : Type 1} → statement M
+bit-spec = tie.close (tie.spec shl-result returns)

@@ -1,0 +1,127 @@
+// CONFIGURE: its records in order, and its reply.
+use model::DR_MEM_RES_FAILURE;
+use model::DR_MEM_RES_NOWORK;
+use model::DR_MEM_RES_OK;
+use model::Found;
+use model::Handled;
+use model::MOST_RECORDS;
+use model::State;
+ghost use mathlib.Core.Path.{_≡_};
+ghost use Prim.Native.Nat.{_+_, _*_, _^_, _≤_, _<_};
+ghost use lib.ListN.{length};
+ghost use Rattle.model.specs.declared.Found.the-variants.{At};
+ghost use Rattle.model.specs.Layout.{blocksOf, memoryHeaderBytes, mostBlocks, mostRecords, outputBytes, pairBytes};
+ghost use Rattle.model.specs.Memory.{configuredBy, answeringConfigure};
+ghost use Rattle.model.specs.Handler.{Handles};
+ghost use Rattle.configuration.specs.Progress.{bitsEnd, ConfiguresAt, ConfiguresOne, ConfiguresAll};
+
+// The bit of block `i`.
+fn bit(i: usize) -> u64
+    requires { ⌜ i < mostBlocks ⌝ }
+    ensures { λ r. ⌜ (r ≡ 2 ^ i) × (r < bitsEnd) ⌝ }
+{
+    1u64 << i
+}
+
+// One record of CONFIGURE: its result, and the bit of the block that it configured, else 0.
+struct OneDone {
+    result: u64,
+    bit: u64,
+}
+
+// "unconfigured gives OK (0) and configures, configured gives NOWORK (4)"
+fn configure_at(state: &mut State, i: usize) -> OneDone
+    requires { ⌜ (i < blocksOf (now state)) × (blocksOf (now state) ≤ mostBlocks) ⌝ }
+    ensures { λ r. ⌜ ConfiguresAt (now (state .entry)) (At i) r (now (state .exit)) ⌝ }
+{
+    if state::configured_of(state, i) != 0 {
+        return OneDone {
+            result: DR_MEM_RES_NOWORK,
+            bit: 0,
+        };
+    }
+    state::set_configured(state, i, 1);
+    OneDone {
+        result: DR_MEM_RES_OK,
+        bit: bit(i),
+    }
+}
+
+// "unknown gives FAILURE (1) and so does every record after it"
+fn configure_one(state: &mut State, failed: bool, addr: u64, size: u64) -> OneDone
+    requires { ⌜ blocksOf (now state) ≤ mostBlocks ⌝ }
+    ensures { λ r. ⌜ ConfiguresOne (now (state .entry)) failed addr size r (now (state .exit)) ⌝ }
+{
+    if failed {
+        return OneDone {
+            result: DR_MEM_RES_FAILURE,
+            bit: 0,
+        };
+    }
+    let found = blocks::named_block(state, addr, size);
+    match found {
+        Found::At { place } => configure_at(state, place),
+        Found::Nowhere => OneDone {
+            result: DR_MEM_RES_FAILURE,
+            bit: 0,
+        },
+    }
+}
+
+// CONFIGURE: the bits of the blocks configured, and each record's result.
+struct AllDone {
+    mask: u64,
+    result: [u64; MOST_RECORDS],
+}
+
+// "CONFIGURE: in order"
+fn configure_all(state: &mut State, b: &[u8], n: usize) -> AllDone
+    requires { ⌜ (n ≤ mostRecords) × (length (now b) ≡ memoryHeaderBytes + n * pairBytes) × (blocksOf (now state) ≤ mostBlocks) ⌝ }
+    ensures { λ r. ⌜ ConfiguresAll (now (state .entry)) (now (b .entry)) n r (now (state .exit)) ⌝ }
+{
+    let mut mask: u64 = 0;
+    let mut failed = false;
+    let mut result = [0u64; MOST_RECORDS];
+    let mut i: usize = 0;
+    while i < n {
+        let step = configure_one(state, failed, requests::address(b, i), requests::size(b, i));
+        mask += step.bit;
+        failed = step.result == DR_MEM_RES_FAILURE;
+        result[i] = step.result;
+        i += 1;
+    }
+    AllDone {
+        mask: mask,
+        result: result,
+    }
+}
+
+// CONFIGURE while none is: kind 11 where a block was configured, else kind 10.
+pub fn configure(
+    state: &mut State,
+    channel: u64,
+    handle: u64,
+    request: u64,
+    b: &[u8],
+    n: usize,
+    out: &mut [u8],
+) -> Handled
+    requires { ⌜ (blocksOf (now state) ≤ mostBlocks) × (n ≤ mostRecords) × (length (now b) ≡ memoryHeaderBytes + n * pairBytes) × (outputBytes ≤ length (now out)) ⌝ }
+    ensures { λ r. ⌜ Handles (answeringConfigure (configuredBy (now (state .entry)) (now (b .entry)) n) channel handle request (now (b .entry)) n) (now (out .entry)) (r .length) (r .event) (now (state .exit)) (now (out .exit)) ⌝ }
+{
+    let done = configure_all(state, b, n);
+    let result = done.result;
+    let address = requests::addresses(b, n);
+    let size = requests::sizes(b, n);
+    let length = records::put_results(state, handle, request, address, size, result, n, out);
+    if done.mask == 0 {
+        return Handled {
+            length: length,
+            event: events::answered(channel, events::CODE_NONE, request),
+        };
+    }
+    Handled {
+        length: length,
+        event: events::configured(channel, done.mask),
+    }
+}

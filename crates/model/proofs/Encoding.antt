@@ -1,0 +1,355 @@
+-- Words that say a sound state are accepted.
+-- Assumes nothing.
+use mathlib.Core.Path.{_≡_, refl, ap, _∙_}
+use mathlib.Core.Bool.{Bool, true, false}
+use mathlib.Core.List.{List, [], _∷_}
+use Prim.Native.Nat.{ℕ, zero, suc, _+_, _*_, _/_, _<_, _≤_}
+use native.Mathlib.Omega.{arith}
+use lib.ListN.{length, getD, getD-replicate}
+use lib.Seq.{sets, length-sets}
+use lib.Dec.{eqb, ltb}
+use borrow.Author.Tests.{le-leb, lt-ltb, eq-eqb, ne-eqb, eqb-true, eqb-false}
+use Rattle.model.specs.Choice.{pick, every, _and_, _or_, firstBelow, tabulate}
+use Rattle.model.specs.declared.Found.the-variants.{At}
+use Rattle.model.specs.declared.Removal.{Removal}
+use Rattle.model.specs.Layout.{blockAt, blockIn, blockWords, channelCount, placeCount, serviceCount, firstBlockWord, lastOf, outstandingOf, stageAt, handleAt, minorAt, readyAt, stageIdle, stageRegistered, wordOf, isSet, removalOf, heldOf, withRemoval, firstStageWord, serviceWords, stateWords, blockCountWord, lastWord, heldWord, outstandingWord, mostRecords}
+use Rattle.model.specs.Blocks.{setupState, endOf, endBefore, acceptedLists, names, namedBlock}
+use Rattle.model.specs.State.{serviceSound, roomAt, removalRoom, collectedSound, resultSound, resultsSound, sound}
+use Rattle.model.specs.Reading.{Stage, idle, offered, registered}
+use Rattle.model.specs.Encoding.{Told, LiveAs, isOffered, isRegistered, blockTold, CollectedTold, nothing, below, ResultTold, ok, nowork, RemovalTold, SoundTold, SaysService, SaysRemoval, Says, stageTold, handleTold, minorTold, servicesTold, removalTold, lowTold, wordsTold, EncodingHolds}
+use Rattle.model.proofs.Choice.{clash, every-make, first-same, first-facts, pick-true, pick-false, tabulate-at, tabulate-length}
+use Rattle.model.proofs.Words.{Arrays, sets-above, sets-at, service-frame, service-length, service-word, counts-frame, counts-length, last-counts, held-counts, removal-frame, removal-length, removal-back, head-back}
+use Rattle.model.proofs.View.{block-same}
+use Rattle.model.proofs.Rules.{sound-test, service-idle, live-last, Live, Apart, Base, Outstanding, RemovalFacts, Removes}
+use Rattle.model.proofs.Setup.{Whole, whole-list, setup-length, high as setup-high, count as setup-count, block as setup-block}
+
+flag : (b : Bool) → wordOf b ≤ 1
+flag true = omega arith
+flag false = omega arith
+
+-- words that say a live service
+live-said : (stage handle minor : ℕ) (v : Stage) → (stage ≡ stageIdle → ⊥) → SaysService stage handle minor v → LiveAs v handle
+unfolding SaysService
+live-said stage handle minor idle n e = absurd (n e)
+live-said stage handle minor (offered h) n e = rw (e .1) (isOffered h)
+live-said stage handle minor (registered h m) n e = rw (e .1) (isRegistered h m)
+
+-- no pages collected fit any block
+none-fits : (room : ℕ) → collectedSound 0 room ≡ true
+unfolding collectedSound pick
+none-fits room = go (eqb room 0) refl
+  where
+    go : (b : Bool) → eqb room 0 ≡ b → pick b (eqb 0 0) (ltb 0 room) ≡ true
+    go true e = refl
+    go false e = lt-ltb 0 room (let q = eqb-false room 0 e in omega (arith, q))
+
+some-fit : (collected room : ℕ) → collected < room → collectedSound collected room ≡ true
+unfolding collectedSound pick
+some-fit collected room h = rw (ne-eqb room 0 (λ e. omega arith)) (lt-ltb collected room h)
+
+result-said : (x : ℕ) → ResultTold x → resultSound x ≡ true
+unfolding resultSound _or_
+result-said _ ok = refl
+result-said _ nowork = refl
+
+module _ (s : List ℕ) (t : Told) (w : Says s t) (f : SoundTold t) where
+  open-said : (k handle : ℕ) → k < placeCount → LiveAs (t .service k) handle → readyAt s (k / serviceCount) ≡ 1
+  open-said k handle h v = w .ready (k / serviceCount) (omega arith) ∙ ap wordOf (f .onReady k handle h v)
+
+  live-facts : (k : ℕ) → k < placeCount → LiveAs (t .service k) (handleAt s k) → stageAt s k ≤ stageRegistered → Live (stageAt s k) (handleAt s k) (readyAt s (k / serviceCount)) (lastOf s)
+  live-facts k h v g = record {
+    stages = g;
+    isReady = open-said k (handleAt s k) h v;
+    ours = record { least = f .least k (handleAt s k) h v; most = rw (w .last) (f .most k (handleAt s k) h v) };
+  }
+
+  service-said : (k : ℕ) → k < placeCount → (v : Stage) → t .service k ≡ v → serviceSound (stageAt s k) (handleAt s k) (minorAt s k) (readyAt s (k / serviceCount)) (lastOf s) ≡ true
+  unfolding SaysService _or_
+  service-said k h idle e = service-idle _ _ _ _ _ (rw e at (w .service k h))
+  service-said k h (offered hd) e =
+      let p = rw e at (w .service k h) in
+      let n : stageAt s k ≡ stageIdle → ⊥ = λ z. omega (arith, p .0) in
+      live-last _ _ _ _ _ n (live-facts k h (live-said _ _ _ _ n (w .service k h)) (omega (arith, p .0)))
+      ∙ rw (p .0)
+  service-said k h (registered hd m) e =
+      let p = rw e at (w .service k h) in
+      let n : stageAt s k ≡ stageIdle → ⊥ = λ z. omega (arith, p .0) in
+      live-last _ _ _ _ _ n (live-facts k h (live-said _ _ _ _ n (w .service k h)) (omega (arith, p .0)))
+      ∙ rw (p .0, p .2) (le-leb _ _ (f .minors k hd m h e))
+
+  apart-said : Apart s
+  apart-said j k l h p q r =
+      f .differ j k (handleAt s j) l h
+      (live-said _ _ _ _ p (w .service j (omega arith)))
+      (rw r (live-said _ _ _ _ q (w .service k h)))
+
+  floor-said : (i : ℕ) → i < length (t .lists .blocks) / blockWords → endBefore s firstBlockWord i ≡ endBefore (t .lists .blocks) 0 i
+  unfolding endBefore
+  floor-said zero h = refl
+  floor-said (suc i) h = ap endOf (w .block i (omega arith))
+
+  base-said : Base s (lastOf s)
+  base-said =
+      let b = whole-list (t .lists .blocks) (unfold acceptedLists in f .blocks) in
+      record {
+        few = rw (w .count) (b .few);
+        blocks = λ i h. let g : i < length (t .lists .blocks) / blockWords = omega (arith, w .count) in rw (w .block i g, floor-said i g) (b .keeps i g);
+        ready = λ c h. rw (w .ready c h) (flag (t .ready c));
+        services = λ k h. service-said k h (t .service k) refl;
+        apart = apart-said;
+      }
+
+  -- the removal
+  module _ (o : t .outstanding ≡ true) where
+    m : Removal
+    m = t .removal
+
+    r : SaysRemoval (removalOf s) (t .removal)
+    r = w .removal o
+
+    g : RemovalTold (t .lists .blocks) (t .last) (t .removal)
+    g = f .removes o
+
+    block-said : (a b : ℕ) → namedBlock s a b ≡ firstBelow (length (t .lists .blocks) / blockWords) (λ i. names a b (blockIn (t .lists .blocks) 0 i))
+    unfolding namedBlock
+    block-said a b =
+        rw (w .count)
+        (first-same (length (t .lists .blocks) / blockWords) (λ i. names a b (blockIn (t .lists .blocks) 0 i)) (λ i. names a b (blockAt s i))
+        (λ i h. ap (names a b) (w .block i h)))
+
+    room-said : (i : ℕ) → t .removal .position < t .removal .count → blockTold (t .lists .blocks) (t .removal) ≡ At i → blockIn (t .lists .blocks) 0 i .configured ≡ 1 → removalRoom s (removalOf s) ≡ blockIn (t .lists .blocks) 0 i .pages
+    unfolding removalRoom blockTold roomAt pick
+    room-said i p q z =
+        rw (
+          r .position,
+          r .count,
+          lt-ltb _ _ p,
+          r .address (t .removal .position) p,
+          r .size (t .removal .position) p,
+          block-said (getD (t .removal .address) (t .removal .position) 0) (getD (t .removal .size) (t .removal .position) 0),
+          q,
+          w .block i (first-facts _ _ i q .below),
+          eq-eqb _ 1 z,
+        )
+
+    collected-said : CollectedTold (t .lists .blocks) (t .removal) → collectedSound (removalOf s .collected) (removalRoom s (removalOf s)) ≡ true
+    collected-said (nothing e) = rw (r .collected, e) (none-fits _)
+    collected-said (below i p q z h) = rw (room-said i p q z, r .collected) (some-fit _ _ h)
+
+    results-said : resultsSound (removalOf s) ≡ true
+    unfolding resultsSound
+    results-said =
+        rw (r .position)
+        (every-make (λ i. resultSound (getD (removalOf s .result) i 0)) (t .removal .position)
+        (λ i h. rw (r .result i h) (result-said _ (g .results i h))))
+
+    removal-said : RemovalFacts s (lastOf s) (removalOf s)
+    removal-said = record {
+      channels = rw (r .channel) (g .channels);
+      handles = record { least = omega arith; most = rw (r .handle, w .last) (g .handles) };
+      some = rw (r .count) (g .some);
+      few = rw (r .count) (g .few);
+      within = rw (r .position, r .count) (g .within);
+      room = collected-said (g .collects);
+      results = results-said;
+    }
+
+  removes-said : Removes s (lastOf s)
+  removes-said e = go (t .outstanding) refl
+    where
+      go : (b : Bool) → t .outstanding ≡ b → Outstanding s (lastOf s)
+      go true o = record {
+        one = w .outstanding ∙ ap wordOf o;
+        flag = rw (w .cancelled o) (flag (t .removal .cancelled));
+        facts = removal-said o;
+      }
+      go false o = absurd (clash (isSet (outstandingOf s)) (ap isSet (w .outstanding ∙ ap wordOf o)) e)
+
+accepted-said : (s : List ℕ) (t : Told) → Says s t → SoundTold t → sound s ≡ true
+accepted-said s t w f =
+    sound-test s
+    (record {
+      base = base-said s t w f;
+      removal = removes-said s t w f;
+      counts = record {
+        lasts = rw (w .last) (f .lasts);
+        helds = rw (w .held) (f .helds);
+        numbered = rw (w .held, w .last) (f .numbered);
+      };
+    })
+
+-- The words of a state. Those of a service:
+service-words : (v : Stage) (stage handle minor : ℕ) → stage ≡ stageTold v → handle ≡ handleTold v → minor ≡ minorTold v → SaysService stage handle minor v
+unfolding SaysService stageTold handleTold minorTold
+service-words idle stage handle minor p q r = p
+service-words (offered h) stage handle minor p q r = (p, q)
+service-words (registered h m) stage handle minor p q r = (p, q, r)
+
+below-other : (k n : ℕ) → k < suc n → (k ≡ n → ⊥) → k < n
+below-other k n h d = omega (arith, d)
+
+module _ (v : ℕ → Stage) (s : List ℕ) where
+  services-length : (n : ℕ) → length (servicesTold v n s) ≡ length s
+  unfolding servicesTold
+  services-length zero = refl
+  services-length (suc n) = service-length (servicesTold v n s) n _ _ _ ∙ services-length n
+
+  services-frame : (n j : ℕ) → (firstStageWord ≤ j → j < firstStageWord + n * serviceWords → ⊥) → getD (servicesTold v n s) j 0 ≡ getD s j 0
+  unfolding servicesTold
+  services-frame zero j h = refl
+  services-frame (suc n) j h =
+      service-frame (servicesTold v n s) n _ _ _ j (λ p q. h (omega arith) (omega arith))
+      ∙ services-frame n j (λ p q. h p (omega arith))
+
+  services-word : (n : ℕ) → n ≤ placeCount → length s ≡ stateWords → (k : ℕ) → k < n → (i : ℕ) → i < serviceWords → getD (servicesTold v n s) (firstStageWord + k * serviceWords + i) 0 ≡ getD (stageTold (v k) ∷ handleTold (v k) ∷ minorTold (v k) ∷ []) i 0
+  unfolding servicesTold
+  services-word zero le size k h i b = absurd (omega arith)
+  services-word (suc n) le size k h i b = go (λ l. services-word n (omega arith) size k l i b) (eqb k n) refl
+    where
+      go : (k < n → getD (servicesTold v n s) (firstStageWord + k * serviceWords + i) 0 ≡ getD (stageTold (v k) ∷ handleTold (v k) ∷ minorTold (v k) ∷ []) i 0) → (x : Bool) → eqb k n ≡ x → getD (servicesTold v (suc n) s) (firstStageWord + k * serviceWords + i) 0 ≡ getD (stageTold (v k) ∷ handleTold (v k) ∷ minorTold (v k) ∷ []) i 0
+      go u true e = rw (eqb-true k n e) (service-word (servicesTold v n s) n _ _ _ (services-length n ∙ size) (omega arith) i b)
+      go u false e =
+          let d = eqb-false k n e in
+          service-frame (servicesTold v n s) n _ _ _ (firstStageWord + k * serviceWords + i) (λ p q. d (omega arith))
+          ∙ u (below-other k n h d)
+
+module _ (t : Told) (f : SoundTold t) where
+  whole : Whole (t .lists .blocks) (length (t .lists .blocks) / blockWords)
+  whole = whole-list (t .lists .blocks) (unfold acceptedLists in f .blocks)
+
+  flags : List ℕ
+  flags = tabulate (λ c. wordOf (t .ready c)) channelCount
+
+  opened : List ℕ
+  opened = sets (setupState (t .lists)) 0 flags
+
+  opened-length : length opened ≡ stateWords
+  unfolding opened
+  opened-length = length-sets (setupState (t .lists)) 0 flags ∙ setup-length (t .lists) whole
+
+  opened-above : (j : ℕ) → channelCount ≤ j → getD opened j 0 ≡ getD (setupState (t .lists)) j 0
+  unfolding opened flags
+  opened-above j h =
+      sets-above (setupState (t .lists)) flags 0 j (omega (arith, tabulate-length (λ (c : ℕ). wordOf (t .ready c)) channelCount))
+
+  opened-at : (c : ℕ) → c < channelCount → getD opened c 0 ≡ wordOf (t .ready c)
+  unfolding opened flags
+  opened-at c h =
+      ap (λ (j : ℕ). getD (sets (setupState (t .lists)) 0 flags) j 0) (omega arith)
+      ∙ sets-at (setupState (t .lists)) flags 0 c
+      (omega (arith, tabulate-length (λ (c : ℕ). wordOf (t .ready c)) channelCount))
+      (omega (arith, tabulate-length (λ (c : ℕ). wordOf (t .ready c)) channelCount, setup-length (t .lists) whole))
+      ∙ tabulate-at (λ (c : ℕ). wordOf (t .ready c)) channelCount c 0 h
+
+  served : List ℕ
+  served = servicesTold (t .service) placeCount opened
+
+  served-length : length served ≡ stateWords
+  unfolding served
+  served-length = services-length (t .service) opened placeCount ∙ opened-length
+
+  low-length : length (lowTold t) ≡ stateWords
+  unfolding lowTold served opened flags
+  low-length = counts-length served (t .last) (t .held) ∙ served-length
+
+  -- all but the services and the counts
+  low-frame : (j : ℕ) → (firstStageWord ≤ j → j < blockCountWord → ⊥) → (lastWord ≤ j → j < lastWord + 2 → ⊥) → getD (lowTold t) j 0 ≡ getD opened j 0
+  unfolding lowTold served opened flags
+  low-frame j p q =
+      counts-frame served (t .last) (t .held) j q ∙ services-frame (t .service) opened placeCount j (λ a b. p a (omega arith))
+
+  low-service : (k i : ℕ) → k < placeCount → i < serviceWords → getD (lowTold t) (firstStageWord + k * serviceWords + i) 0 ≡ getD (stageTold (t .service k) ∷ handleTold (t .service k) ∷ minorTold (t .service k) ∷ []) i 0
+  unfolding lowTold served opened flags
+  low-service k i h b =
+      counts-frame served (t .last) (t .held) (firstStageWord + k * serviceWords + i) (λ p q. omega arith)
+      ∙ services-word (t .service) opened placeCount (omega arith) opened-length k h i b
+
+  arrays : Arrays (removalTold (t .removal))
+  unfolding removalTold
+  arrays = record {
+    addresses = tabulate-length _ mostRecords;
+    sizes = tabulate-length _ mostRecords;
+    results = tabulate-length _ mostRecords;
+  }
+
+  -- below the removal's words
+  words-low : (j : ℕ) → j < outstandingWord → getD (wordsTold t) j 0 ≡ getD (lowTold t) j 0
+  unfolding wordsTold
+  words-low j h = go (t .outstanding)
+    where
+      go : (b : Bool) → getD (pick b (withRemoval (lowTold t) (removalTold (t .removal))) (lowTold t)) j 0 ≡ getD (lowTold t) j 0
+      go true = unfold pick in removal-frame (lowTold t) (removalTold (t .removal)) j h
+      go false = unfold pick in refl
+
+  words-removal : t .outstanding ≡ true → wordsTold t ≡ withRemoval (lowTold t) (removalTold (t .removal))
+  unfolding wordsTold
+  words-removal o = pick-true _ _ _ o
+
+  words-length : length (wordsTold t) ≡ stateWords
+  unfolding wordsTold
+  words-length = go (t .outstanding)
+    where
+      go : (b : Bool) → length (pick b (withRemoval (lowTold t) (removalTold (t .removal))) (lowTold t)) ≡ stateWords
+      go true = unfold pick in removal-length (lowTold t) (removalTold (t .removal)) ∙ low-length
+      go false = unfold pick in low-length
+
+  words-service : (k i j : ℕ) → k < placeCount → i < serviceWords → j ≡ firstStageWord + k * serviceWords + i → getD (wordsTold t) j 0 ≡ getD (stageTold (t .service k) ∷ handleTold (t .service k) ∷ minorTold (t .service k) ∷ []) i 0
+  words-service k i j h b e = rw e (words-low (firstStageWord + k * serviceWords + i) (omega arith) ∙ low-service k i h b)
+
+  words-outstanding : (b : Bool) → t .outstanding ≡ b → outstandingOf (wordsTold t) ≡ wordOf b
+  unfolding wordsTold
+  words-outstanding true o = rw (pick-true _ _ _ o) (head-back (lowTold t) (removalTold (t .removal)) low-length arrays 0 (omega arith))
+  words-outstanding false o =
+      rw (pick-false _ _ _ o)
+      (low-frame outstandingWord (λ p q. omega arith) (λ p q. omega arith)
+      ∙ opened-above outstandingWord (omega arith)
+      ∙ setup-high (t .lists) whole outstandingWord (omega arith)
+      ∙ getD-replicate {A = ℕ} stateWords outstandingWord 0 0 (omega arith))
+
+  removal-said-by : t .outstanding ≡ true → SaysRemoval (removalOf (wordsTold t)) (t .removal)
+  unfolding removalTold
+  removal-said-by o =
+      let g = f .removes o in
+      rw (words-removal o, removal-back (lowTold t) (removalTold (t .removal)) low-length arrays)
+      (record {
+        channel = refl;
+        handle = refl;
+        request = refl;
+        count = refl;
+        position = refl;
+        collected = refl;
+        address = λ i h. tabulate-at (λ (i : ℕ). getD (t .removal .address) i 0) mostRecords i 0 (omega (arith, g .few));
+        size = λ i h. tabulate-at (λ (i : ℕ). getD (t .removal .size) i 0) mostRecords i 0 (omega (arith, g .few));
+        result = λ i h. tabulate-at (λ (i : ℕ). getD (t .removal .result) i 0) mostRecords i 0 (omega (arith, g .few, g .within));
+      })
+
+  last-said : lastOf (lowTold t) ≡ t .last
+  unfolding lowTold served opened flags
+  last-said = last-counts served (t .last) (t .held) served-length
+
+  held-said : heldOf (lowTold t) ≡ t .held
+  unfolding lowTold served opened flags
+  held-said = held-counts served (t .last) (t .held) served-length
+
+  told-flag : wordOf (removalTold (t .removal) .cancelled) ≡ wordOf (t .removal .cancelled)
+  unfolding removalTold
+  told-flag = refl
+
+  words-said : Says (wordsTold t) t
+  words-said = record {
+    ready = λ c h. words-low c (omega arith) ∙ low-frame c (λ p q. omega arith) (λ p q. omega arith) ∙ opened-at c h;
+    service = λ k h. service-words (t .service k) _ _ _ (words-service k 0 _ h (omega arith) (omega arith)) (words-service k 1 _ h (omega arith) (omega arith)) (words-service k 2 _ h (omega arith) (omega arith));
+    count = words-low blockCountWord (omega arith) ∙ low-frame blockCountWord (λ p q. omega arith) (λ p q. omega arith) ∙ opened-above blockCountWord (omega arith) ∙ setup-count (t .lists) whole;
+    block = λ i h.
+        block-same (setupState (t .lists)) (wordsTold t) i (omega (arith, whole .few))
+        (λ j lo hi. words-low j (omega arith) ∙ low-frame j (λ p q. omega arith) (λ p q. omega arith) ∙ opened-above j (omega arith))
+        ∙ setup-block (t .lists) whole i h;
+    last = words-low lastWord (omega arith) ∙ last-said;
+    held = words-low heldWord (omega arith) ∙ held-said;
+    outstanding = words-outstanding (t .outstanding) refl;
+    cancelled = λ o. rw (words-removal o) (head-back (lowTold t) (removalTold (t .removal)) low-length arrays 1 (omega arith) ∙ told-flag);
+    removal = removal-said-by;
+  }
+
+pub encoding : EncodingHolds
+encoding = record { said = λ t f. (words-said t f, words-length t f); accepted = accepted-said }

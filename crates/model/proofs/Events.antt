@@ -1,0 +1,88 @@
+-- Each kind's event fits an entry: its fields fit their bits, and those that its kind does not name are 0.
+-- Assumes nothing.
+use Prim.Native.Nat.{ℕ, _≤_, _<_}
+use native.Mathlib.Omega.{arith}
+use mathlib.Core.Path.{_≡_, refl}
+use mathlib.Core.Bool.{true}
+use Rattle.entry.specs.Word.{InRange}
+use Rattle.model.specs.Choice.{_and_, _or_}
+use Rattle.model.specs.declared.Event.{Event}
+use Rattle.model.specs.Layout.{channelCount, serviceCount, mostRecords, highestNumber, highestMinor, mostBudget}
+use Rattle.model.specs.Journal.{kinds, unnamedZero, keepsTable, fieldsOf, readyEvent, closedEvent, versionRefusedEvent, offeredEvent, registeredEvent, offerRefusedEvent, serviceEndedEvent, deliveredEvent, dataRefusedEvent, answeredEvent, configuredEvent, begunEvent, cancelledEvent, collectedEvent, settledEvent, removalEndEvent, notedEvent}
+
+pub record Fits (number : ℕ) (e : Event) : Type 0 where
+  pub range : InRange (fieldsOf number e)
+  pub table : keepsTable e ≡ true
+
+-- what a code of three bits is below
+abbrev pub codeEnd : ℕ
+codeEnd = 8
+
+module _ (number c : ℕ) (n : number ≤ highestNumber) (h : c < channelCount) where
+  pub ready-fits : Fits number (readyEvent c)
+  unfolding fieldsOf kinds unnamedZero _and_ _or_
+  ready-fits = record { range = omega arith; table = refl }
+
+  pub closed-fits : (by : ℕ) → Fits number (closedEvent c by)
+  unfolding fieldsOf kinds unnamedZero _and_ _or_
+  closed-fits by = record { range = omega arith; table = refl }
+
+  pub version-fits : (major : ℕ) → major ≤ highestMinor → Fits number (versionRefusedEvent c major)
+  unfolding fieldsOf kinds unnamedZero _and_ _or_
+  version-fits major m = record { range = omega arith; table = refl }
+
+  pub offered-fits : (v : ℕ) → v < serviceCount → Fits number (offeredEvent c v)
+  unfolding fieldsOf kinds unnamedZero _and_ _or_
+  offered-fits v l = record { range = omega arith; table = refl }
+
+  pub registered-fits : (v minor handle : ℕ) → v < serviceCount → minor ≤ highestMinor → Fits number (registeredEvent c v minor handle)
+  unfolding fieldsOf kinds unnamedZero _and_ _or_
+  registered-fits v minor handle l m = record { range = omega arith; table = refl }
+
+  pub refused-fits : (v : ℕ) → v < serviceCount → Fits number (offerRefusedEvent c v)
+  unfolding fieldsOf kinds unnamedZero _and_ _or_
+  refused-fits v l = record { range = omega arith; table = refl }
+
+  pub ended-fits : (v : ℕ) → v < serviceCount → Fits number (serviceEndedEvent c v)
+  unfolding fieldsOf kinds unnamedZero _and_ _or_
+  ended-fits v l = record { range = omega arith; table = refl }
+
+  pub delivered-fits : (v : ℕ) → v < serviceCount → Fits number (deliveredEvent c v)
+  unfolding fieldsOf kinds unnamedZero _and_ _or_
+  delivered-fits v l = record { range = omega arith; table = refl }
+
+  pub data-refused-fits : (handle : ℕ) → Fits number (dataRefusedEvent c handle)
+  unfolding fieldsOf kinds unnamedZero _and_ _or_
+  data-refused-fits handle = record { range = omega arith; table = refl }
+
+  pub answered-fits : (code request : ℕ) → code < codeEnd → Fits number (answeredEvent c code request)
+  unfolding fieldsOf kinds unnamedZero _and_ _or_
+  answered-fits code request k = record { range = omega arith; table = refl }
+
+  pub configured-fits : (blocks : ℕ) → Fits number (configuredEvent c blocks)
+  unfolding fieldsOf kinds unnamedZero _and_ _or_
+  configured-fits blocks = record { range = omega arith; table = refl }
+
+  pub begun-fits : (records request : ℕ) → records ≤ mostRecords → Fits number (begunEvent c records request)
+  unfolding fieldsOf kinds unnamedZero _and_ _or_
+  begun-fits records request few = record { range = omega arith; table = refl }
+
+  pub cancelled-fits : (request : ℕ) → Fits number (cancelledEvent c request)
+  unfolding fieldsOf kinds unnamedZero _and_ _or_
+  cancelled-fits request = record { range = omega arith; table = refl }
+
+  pub collected-fits : (pages : ℕ) → pages ≤ mostBudget → Fits number (collectedEvent c pages)
+  unfolding fieldsOf kinds unnamedZero _and_ _or_
+  collected-fits pages p = record { range = omega arith; table = refl }
+
+  pub settled-fits : (place code pages block : ℕ) → place < mostRecords → code < codeEnd → pages ≤ mostBudget → Fits number (settledEvent c place code pages block)
+  unfolding fieldsOf kinds unnamedZero _and_ _or_
+  settled-fits place code pages block p k l = record { range = omega arith; table = refl }
+
+  pub end-fits : (code replied request : ℕ) → code < codeEnd → replied ≤ 1 → Fits number (removalEndEvent c code replied request)
+  unfolding fieldsOf kinds unnamedZero _and_ _or_
+  end-fits code replied request k r = record { range = omega arith; table = refl }
+
+  pub noted-fits : (type : ℕ) → Fits number (notedEvent c type)
+  unfolding fieldsOf kinds unnamedZero _and_ _or_
+  noted-fits type = record { range = omega arith; table = refl }

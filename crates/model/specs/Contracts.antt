@@ -1,0 +1,102 @@
+-- The contracts of the calls, and demand 3 of every list of calls that meet them. The state, the journal and the output (or drain's run) are
+-- lent: what a call leaves of them is an argument.
+-- Assumes nothing.
+use Prim.Native.Nat.{ℕ}
+use mathlib.Core.Path.{_≡_}
+use mathlib.Core.List.{List, [], _∷_}
+use Rattle.model.specs.declared.Answer.{Answer}
+use Rattle.model.specs.declared.Worked.{Worked}
+use Rattle.model.specs.declared.Drained.{Drained}
+use Rattle.model.specs.declared.Started.{Started}
+use Rattle.model.specs.Blocks.{Lists}
+use Rattle.model.specs.Calls.{Action, receive, offer, withdraw, close, work, Call, act, drain, Outcome, outcome, started, shown}
+use Rattle.model.specs.Demand3.{Run, Done, after, runs, newRun, Demand3}
+
+-- what a function returned and left, as an outcome
+abbrev pub answered : Answer → List ℕ → List ℕ → List ℕ → Outcome
+answered r s j out = record {
+  refusal = r .refusal;
+  count = r .length;
+  pages = 0;
+  state = s;
+  journal = j;
+  buffer = out;
+}
+
+abbrev pub worked : Worked → List ℕ → List ℕ → List ℕ → Outcome
+worked r s j out = record {
+  refusal = r .refusal;
+  count = r .length;
+  pages = r .pages;
+  state = s;
+  journal = j;
+  buffer = out;
+}
+
+abbrev pub emptied : Drained → List ℕ → List ℕ → List ℕ → Outcome
+emptied r s j run = record {
+  refusal = r .refusal;
+  count = r .entries;
+  pages = 0;
+  state = s;
+  journal = j;
+  buffer = run;
+}
+
+-- The contracts: given a state, a journal and the call's own arguments, what may be returned and left.
+abbrev pub SetupPost : Lists → Started → Type 0
+SetupPost l r = r ≡ started l
+
+abbrev pub ActionPost : List ℕ → List ℕ → Action → List ℕ → Answer → List ℕ → List ℕ → List ℕ → Type 0
+ActionPost s j a out r s′ j′ out′ = answered r s′ j′ out′ ≡ outcome s j (act a out)
+
+abbrev pub ReceivePost : List ℕ → List ℕ → ℕ → List ℕ → List ℕ → Answer → List ℕ → List ℕ → List ℕ → Type 0
+ReceivePost s j c m out r s′ j′ out′ = ActionPost s j (receive c m) out r s′ j′ out′
+
+abbrev pub OfferPost : List ℕ → List ℕ → ℕ → ℕ → List ℕ → Answer → List ℕ → List ℕ → List ℕ → Type 0
+OfferPost s j c v out r s′ j′ out′ = ActionPost s j (offer c v) out r s′ j′ out′
+
+abbrev pub WithdrawPost : List ℕ → List ℕ → ℕ → ℕ → List ℕ → Answer → List ℕ → List ℕ → List ℕ → Type 0
+WithdrawPost s j c v out r s′ j′ out′ = ActionPost s j (withdraw c v) out r s′ j′ out′
+
+abbrev pub ClosePost : List ℕ → List ℕ → ℕ → List ℕ → Answer → List ℕ → List ℕ → List ℕ → Type 0
+ClosePost s j c out r s′ j′ out′ = ActionPost s j (close c) out r s′ j′ out′
+
+abbrev pub WorkPost : List ℕ → List ℕ → ℕ → List ℕ → Worked → List ℕ → List ℕ → List ℕ → Type 0
+WorkPost s j budget out r s′ j′ out′ = worked r s′ j′ out′ ≡ outcome s j (act (work budget) out)
+
+abbrev pub DrainPost : List ℕ → List ℕ → List ℕ → Drained → List ℕ → List ℕ → List ℕ → Type 0
+DrainPost s j run r s′ j′ run′ = emptied r s′ j′ run′ ≡ outcome s j (drain run)
+
+-- show is no call of the list: it is lent the state and a message, and gives a part of the message
+abbrev pub ShowPost : List ℕ → ℕ → List ℕ → List ℕ → Type 0
+ShowPost s c m part = part ≡ shown s c m
+
+-- what a call may return and leave, given a state and a journal: what its contract tells
+pub data Meets (s j : List ℕ) : Call → Outcome → Type 0 where
+  answers :
+      {a : Action} {out : List ℕ} {r : Answer} {s′ j′ out′ : List ℕ} →
+      ActionPost s j a out r s′ j′ out′ →
+      Meets s j (act a out) (answered r s′ j′ out′)
+  works :
+      {budget : ℕ} {out : List ℕ} {r : Worked} {s′ j′ out′ : List ℕ} →
+      WorkPost s j budget out r s′ j′ out′ →
+      Meets s j (act (work budget) out) (worked r s′ j′ out′)
+  drains :
+      {run : List ℕ} {r : Drained} {s′ j′ run′ : List ℕ} →
+      DrainPost s j run r s′ j′ run′ →
+      Meets s j (drain run) (emptied r s′ j′ run′)
+
+-- each call of a list meets its contract, lent the state and the journal that the call before it left
+unfoldable pub AllMeet : Run → List Done → Type 0
+AllMeet u [] = Unit {0}
+AllMeet u (d ∷ ds) = Meets (u .state) (u .journal) (d .call) (d .gave) × AllMeet (after u d) ds
+
+-- Demand 3 for every list of calls that meet their contracts, from a setup that meets its contract and does not refuse.
+abbrev pub Demand3Holds : Type 0
+Demand3Holds =
+    (l : Lists) (r : Started) (j : List ℕ) (ds : List Done) →
+    SetupPost l r →
+    r .refusal ≡ 0 →
+    AllMeet (newRun (r .state) j) ds →
+    Demand3 l (r .state) j ds (runs (newRun (r .state) j) ds)

@@ -1,0 +1,169 @@
+-- The refusal numbers "are given in no other case", and so 8: a state as 01 tells it, the words that say it, and the claim that a sound one has words
+-- and that all words that say it are accepted, whatever those without a meaning in it hold.
+-- Assumes nothing.
+use Prim.Native.Nat.{ℕ, zero, suc, _/_, _≤_, _<_}
+use mathlib.Core.Path.{_≡_}
+use mathlib.Core.Bool.{Bool, true}
+use mathlib.Core.List.{List}
+use lib.ListN.{length, getD}
+use lib.Seq.{sets}
+use Rattle.model.specs.Choice.{pick, tabulate, firstBelow}
+use Rattle.model.specs.declared.Found.{Found}
+use Rattle.model.specs.declared.Found.the-variants.{At}
+use Rattle.model.specs.declared.Removal.{Removal}
+use Rattle.model.specs.Layout.{channelCount, serviceCount, placeCount, mostRecords, mostHeld, highestNumber, highestMinor, stageIdle, stageOffered, stageRegistered, blockWords, stateWords, readyAt, stageAt, handleAt, minorAt, blocksOf, blockIn, blockAt, lastOf, heldOf, outstandingOf, cancelledOf, wordOf, removalOf, withService, withCounts, withRemoval}
+use Rattle.model.specs.Blocks.{Lists, acceptedLists, setupState, names}
+use Rattle.model.specs.State.{sound}
+use Rattle.model.specs.Reading.{Stage, idle, offered, registered}
+
+-- "What the agent holds", without words. The lists are those of setup's form, with each block configured or not as it now is.
+pub record Told : Type 0 where
+  pub ready : ℕ → Bool
+  pub service : ℕ → Stage
+  pub lists : Lists
+  pub last : ℕ
+  pub held : ℕ
+  pub outstanding : Bool
+  pub removal : Removal
+
+-- a live service, and its handle
+pub data LiveAs : Stage → ℕ → Type 0 where
+  isOffered : (handle : ℕ) → LiveAs (offered handle) handle
+  isRegistered : (handle minor : ℕ) → LiveAs (registered handle minor) handle
+
+-- the block that the pair at a removal's position names, where the position is a record's (`below` asks that)
+unfoldable pub blockTold : List ℕ → Removal → Found
+blockTold l m =
+    firstBelow (length l / blockWords)
+    (λ i. names (getD (m .address) (m .position) 0) (getD (m .size) (m .position) 0) (blockIn l 0 i))
+
+-- "pages collected below those of the configured block named at the position, or 0 if there is none"
+pub data CollectedTold (l : List ℕ) (m : Removal) : Type 0 where
+  nothing : m .collected ≡ 0 → CollectedTold l m
+  below :
+      (i : ℕ) →
+      m .position < m .count →
+      blockTold l m ≡ At i →
+      blockIn l 0 i .configured ≡ 1 →
+      m .collected < blockIn l 0 i .pages →
+      CollectedTold l m
+
+-- "for each settled record OK or NOWORK"
+pub data ResultTold : ℕ → Type 0 where
+  ok : ResultTold 0
+  nowork : ResultTold 4
+
+-- "a removal has a channel to 3, a handle up to that last number, 1 to 16 records, a position up to their count"
+pub record RemovalTold (l : List ℕ) (last : ℕ) (m : Removal) : Type 0 where
+  pub channels : m .channel < channelCount
+  pub handles : m .handle ≤ last
+  pub some : 1 ≤ m .count
+  pub few : m .count ≤ mostRecords
+  pub within : m .position ≤ m .count
+  pub collects : CollectedTold l m
+  pub results : (i : ℕ) → i < m .position → ResultTold (getD (m .result) i 0)
+
+-- "A state is sound if its blocks keep these rules; services on closed channels are idle; live handles differ and lie between 1 and the last
+-- entry number used ..": 01's sentence, and what the numbers can be: a minor version has 16 bits, a settled record's result is OK or NOWORK.
+pub record SoundTold (t : Told) : Type 0 where
+  pub blocks : acceptedLists (t .lists) ≡ true
+  pub onReady : (k handle : ℕ) → k < placeCount → LiveAs (t .service k) handle → t .ready (k / serviceCount) ≡ true
+  pub least : (k handle : ℕ) → k < placeCount → LiveAs (t .service k) handle → 1 ≤ handle
+  pub most : (k handle : ℕ) → k < placeCount → LiveAs (t .service k) handle → handle ≤ t .last
+  pub differ :
+      (j k handle : ℕ) →
+      j < k →
+      k < placeCount →
+      LiveAs (t .service j) handle →
+      LiveAs (t .service k) handle →
+      ⊥
+  pub minors : (k handle minor : ℕ) → k < placeCount → t .service k ≡ registered handle minor → minor ≤ highestMinor
+  pub lasts : t .last ≤ highestNumber
+  pub helds : t .held ≤ mostHeld
+  pub numbered : t .held ≤ t .last
+  pub removes : t .outstanding ≡ true → RemovalTold (t .lists .blocks) (t .last) (t .removal)
+
+-- three words say a service
+unfoldable pub SaysService : ℕ → ℕ → ℕ → Stage → Type 0
+SaysService stage handle minor idle = stage ≡ stageIdle
+SaysService stage handle minor (offered h) = (stage ≡ stageOffered) × (handle ≡ h)
+SaysService stage handle minor (registered h m) = (stage ≡ stageRegistered) × (handle ≡ h) × (minor ≡ m)
+
+-- a removal's words say a removal: its records up to the count, its results up to the position
+pub record SaysRemoval (r m : Removal) : Type 0 where
+  pub channel : r .channel ≡ m .channel
+  pub handle : r .handle ≡ m .handle
+  pub request : r .request ≡ m .request
+  pub count : r .count ≡ m .count
+  pub position : r .position ≡ m .position
+  pub collected : r .collected ≡ m .collected
+  pub address : (i : ℕ) → i < m .count → getD (r .address) i 0 ≡ getD (m .address) i 0
+  pub size : (i : ℕ) → i < m .count → getD (r .size) i 0 ≡ getD (m .size) i 0
+  pub result : (i : ℕ) → i < m .position → getD (r .result) i 0 ≡ getD (m .result) i 0
+
+-- the words s say the state t: of the words that have a meaning in it
+pub record Says (s : List ℕ) (t : Told) : Type 0 where
+  pub ready : (c : ℕ) → c < channelCount → readyAt s c ≡ wordOf (t .ready c)
+  pub service : (k : ℕ) → k < placeCount → SaysService (stageAt s k) (handleAt s k) (minorAt s k) (t .service k)
+  pub count : blocksOf s ≡ length (t .lists .blocks) / blockWords
+  pub block : (i : ℕ) → i < length (t .lists .blocks) / blockWords → blockAt s i ≡ blockIn (t .lists .blocks) 0 i
+  pub last : lastOf s ≡ t .last
+  pub held : heldOf s ≡ t .held
+  pub outstanding : outstandingOf s ≡ wordOf (t .outstanding)
+  pub cancelled : t .outstanding ≡ true → cancelledOf s ≡ wordOf (t .removal .cancelled)
+  pub removal : t .outstanding ≡ true → SaysRemoval (removalOf s) (t .removal)
+
+-- Words that say a state: those without a meaning in it are 0.
+
+-- a service's three words
+unfoldable pub stageTold : Stage → ℕ
+stageTold idle = stageIdle
+stageTold (offered handle) = stageOffered
+stageTold (registered handle minor) = stageRegistered
+
+unfoldable pub handleTold : Stage → ℕ
+handleTold idle = 0
+handleTold (offered handle) = handle
+handleTold (registered handle minor) = handle
+
+unfoldable pub minorTold : Stage → ℕ
+minorTold idle = 0
+minorTold (offered handle) = 0
+minorTold (registered handle minor) = minor
+
+-- the services at the places below n written
+unfoldable pub servicesTold : (ℕ → Stage) → ℕ → List ℕ → List ℕ
+servicesTold v zero s = s
+servicesTold v (suc k) s =
+    withService (servicesTold v k s) k (stageTold (v k)) (handleTold (v k)) (minorTold (v k))
+
+-- a removal with arrays of sixteen
+unfoldable pub removalTold : Removal → Removal
+removalTold m = record {
+  cancelled = m .cancelled;
+  channel = m .channel;
+  handle = m .handle;
+  request = m .request;
+  count = m .count;
+  position = m .position;
+  collected = m .collected;
+  address = tabulate (λ i. getD (m .address) i 0) mostRecords;
+  size = tabulate (λ i. getD (m .size) i 0) mostRecords;
+  result = tabulate (λ i. getD (m .result) i 0) mostRecords;
+}
+
+-- all but the removal
+unfoldable pub lowTold : Told → List ℕ
+lowTold t =
+    withCounts
+    (servicesTold (t .service) placeCount (sets (setupState (t .lists)) 0 (tabulate (λ c. wordOf (t .ready c)) channelCount)))
+    (t .last)
+    (t .held)
+
+unfoldable pub wordsTold : Told → List ℕ
+wordsTold t = pick (t .outstanding) (withRemoval (lowTold t) (removalTold (t .removal))) (lowTold t)
+
+-- Every state that 01 calls sound has words, and all words that say it are accepted.
+pub record EncodingHolds : Type 0 where
+  pub said : (t : Told) → SoundTold t → Says (wordsTold t) t × (length (wordsTold t) ≡ stateWords)
+  pub accepted : (s : List ℕ) (t : Told) → Says s t → SoundTold t → sound s ≡ true

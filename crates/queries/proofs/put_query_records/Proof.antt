@@ -1,0 +1,94 @@
+-- `queries::put_query_records` meets its contract: the records passed stand after the headers.
+-- Assumes nothing.
+use native.Mathlib.Omega.{arith}
+use Prim.Native.Nat.{_≤_, _-_, _+_, _*_}
+use mathlib.Core.Path.{_≡_, refl, _∙_}
+use lib.ListN.{length, length-take, length-drop}
+use lib.Seq.{sets}
+use Rattle.model.specs.Choice.{joined}
+use Rattle.model.specs.Memory.{addrIn, sizeIn, queryRecord}
+use Rattle.model.proofs.Replies.{query-length}
+use Rattle.records.proofs.Parts.{record-more}
+use Rattle.queries.proofs.put_query_records.Statement.{statement}
+use Rattle.queries.proofs.put_query_records.Tie as tie
+use Rattle.model.specs.Layout.{queryBytes, replyHeaderBytes}
+
+abbrev Inv-loop : tie.InvT-loop
+Inv-loop state b n out₀ i₀ out i = (i ≤ n) × (length out ≡ length out₀) × (out ≡ sets out₀ replyHeaderBytes (joined (λ k. queryRecord state (addrIn b k) (sizeIn b k)) i))
+
+abbrev μ-loop : tie.MeasureT-loop
+μ-loop state b n out₀ i₀ out i = n - i
+
+loop-holds : tie.Need-loop-holds Inv-loop μ-loop
+unfolding joined
+loop-holds c = (omega arith, refl, refl)
+
+address-requires : tie.Need-address-requires Inv-loop μ-loop
+address-requires c κs = omega arith
+
+size-requires : tie.Need-size-requires Inv-loop μ-loop
+size-requires c κs = omega arith
+
+mul-at : tie.Need-mul-at Inv-loop μ-loop
+mul-at c = omega arith
+
+add-at : tie.Need-add-at Inv-loop μ-loop
+add-at c = omega arith
+
+add-end : tie.Need-add-end Inv-loop μ-loop
+add-end c = omega arith
+
+sub-put-query-record : tie.Need-sub-put-query-record Inv-loop μ-loop
+sub-put-query-record c = omega arith
+
+part-put-query-record-start : tie.Need-part-put-query-record-start Inv-loop μ-loop
+part-put-query-record-start c = omega arith
+
+part-put-query-record-end : tie.Need-part-put-query-record-end Inv-loop μ-loop
+part-put-query-record-end c = omega arith
+
+put-query-record-requires : tie.Need-put-query-record-requires Inv-loop μ-loop
+put-query-record-requires c κs = (c .before .before .before .before .before .before .before .pre .0, simp (length-take, length-drop) (omega arith))
+
+add-i : tie.Need-add-i Inv-loop μ-loop
+add-i c = omega arith
+
+loop-less : tie.Need-loop-less Inv-loop μ-loop
+loop-less c = omega arith
+
+loop-again : tie.Need-loop-again Inv-loop μ-loop
+loop-again c =
+    let l = c .before .before .before .before .before .before .before .loop in
+    let fits : replyHeaderBytes + l .i * queryBytes + queryBytes ≤ length (l .out) = omega arith in
+    let span : replyHeaderBytes + l .i * queryBytes + queryBytes - (replyHeaderBytes + l .i * queryBytes) ≡ queryBytes = omega arith in
+    (omega arith, omega arith, record-more _ queryBytes (λ i. query-length _ _ _) _ _ _ _ _ (l .inv .2) (c .before .before .put-query-record .ensures ∙ rw (c .before .before .before .before .before .address .ensures, c .before .before .before .before .size .ensures)) span fits)
+
+same-length : tie.Need-same-length Inv-loop μ-loop
+same-length c = c .before .loop .inv .1
+
+returns : tie.Need-returns Inv-loop μ-loop
+returns c =
+    let same : c .before .loop .i ≡ c .before .before .before .before .args .n = omega arith in
+    c .before .loop .inv .2 ∙ rw same
+
+pub put-query-records-spec : {M : Type 1} → statement M
+put-query-records-spec =
+    tie.close
+    (tie.spec
+    Inv-loop
+    μ-loop
+    loop-holds
+    address-requires
+    size-requires
+    mul-at
+    add-at
+    add-end
+    sub-put-query-record
+    part-put-query-record-start
+    part-put-query-record-end
+    put-query-record-requires
+    add-i
+    loop-less
+    loop-again
+    same-length
+    returns)

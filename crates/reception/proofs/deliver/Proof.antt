@@ -1,0 +1,45 @@
+use mathlib.Core.Path.{refl, sym, _∙_}
+use Rattle.wire.specs.BigEndian.{written}
+use Rattle.model.specs.Calls.{routed, dataFor}
+use borrow.Author.Needs.{needs}
+use Rattle.reception.proofs.deliver.Statement.{statement}
+use Rattle.reception.proofs.deliver.Tie as tie
+
+route-requires : tie.Need-route-requires
+route-requires c κs = search needs
+
+enum-told : tie.Need-enum-told
+enum-told c = search needs
+
+answer-requires : tie.Need-answer-requires
+answer-requires c κs = search needs
+
+enum-told-2 : tie.Need-enum-told-2
+enum-told-2 c = search needs
+
+delivered-requires : tie.Need-delivered-requires
+delivered-requires c κs = search needs
+
+same-length : tie.Need-same-length
+same-length c = search needs
+
+returns : tie.Need-returns
+unfolding dataFor routed
+returns c = let t = c .before .before .before .before .before in rw (sym (t .before .before .route .ensures) ∙ t .enum-told .given .1) (c .before .before .answer .ensures)
+
+returns-2 : tie.Need-returns-2
+unfolding dataFor routed written
+returns-2 c = let t = c .before in rw (sym (t .before .before .route .ensures) ∙ t .enum-told2 .given .1) (record { length′ = refl; notes = c .delivered .ensures; state = refl; output = refl })
+
+pub deliver-spec : {M : Type 1} → statement M
+deliver-spec =
+    tie.close
+    (tie.spec
+    route-requires
+    enum-told
+    answer-requires
+    enum-told-2
+    delivered-requires
+    same-length
+    returns
+    returns-2)

@@ -1,0 +1,21 @@
+use Rattle.model.specs.Calls.{isHost}
+use borrow.Author.Needs.{needs}
+use Rattle.reception.proofs.is_host.Statement.{statement}
+use Rattle.reception.proofs.is_host.Tie as tie
+
+enum-told : tie.Need-enum-told
+enum-told c = search needs
+
+enum-told-2 : tie.Need-enum-told-2
+enum-told-2 c = search needs
+
+returns : tie.Need-returns
+unfolding isHost
+returns c = rw (c .enum-told .given .1)
+
+returns-2 : tie.Need-returns-2
+unfolding isHost
+returns-2 c = rw (c .enum-told2 .given .1)
+
+pub is-host-spec : {M : Type 1} → statement M
+is-host-spec = tie.close (tie.spec enum-told enum-told-2 returns returns-2)

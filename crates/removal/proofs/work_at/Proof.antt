@@ -1,0 +1,34 @@
+use mathlib.Core.Path.{refl, sym, _∙_}
+use Rattle.removal.proofs.Laws.{goes-on, at-permanent, at-movable}
+use borrow.Author.Needs.{needs}
+use Rattle.removal.proofs.work_at.Statement.{statement}
+use Rattle.removal.proofs.work_at.Tie as tie
+
+permanent-of-requires : tie.Need-permanent-of-requires
+permanent-of-requires c κs = let p = c .before .before .pre in goes-on _ _ _ (p .0) (p .1) .known
+
+end-step-requires : tie.Need-end-step-requires
+end-step-requires c κs = search needs
+
+same-length : tie.Need-same-length
+same-length c = search needs
+
+returns : tie.Need-returns
+returns c = let t = c .before .before .before .before .before in at-permanent _ _ _ _ _ (λ e. t .if1 .taken (t .before .permanent-of .ensures ∙ e)) (c .before .before .end-step .ensures)
+
+work-on-requires : tie.Need-work-on-requires
+work-on-requires c κs = let p = c .before .before .before .before .before .pre in goes-on _ _ _ (p .0) (p .1)
+
+returns-2 : tie.Need-returns-2
+returns-2 c = let t = c .before .before in at-movable _ _ _ _ _ (sym (t .before .permanent-of .ensures) ∙ t .if1 .left) refl (c .work-on .ensures)
+
+pub work-at-spec : {M : Type 1} → statement M
+work-at-spec =
+    tie.close
+    (tie.spec
+    permanent-of-requires
+    end-step-requires
+    same-length
+    returns
+    work-on-requires
+    returns-2)
