@@ -20,10 +20,11 @@ use Rattle.model.specs.Messages.{effect}
 use Rattle.model.specs.Work.{addrNow, sizeNow, blockNow, endCode, lateReply, ending, settled, collecting, pagesMoved, collects, worksOn, stepOf, working, WorkStep, failingCode, moving, worksAt}
 use Rattle.model.specs.Reading.{read, seeBlocks, seeRemoval, flagged, unconfiguredIn, steppedRemoval, addedPages, blocksShown, viewOf}
 use Rattle.model.proofs.Choice.{on-pick, or-false, every-at, every-make}
-use Rattle.model.proofs.Words.{Arrays, loaded-arrays, without-outstanding}
+use Rattle.model.proofs.Words.{Arrays, loaded-arrays, without-frame, without-outstanding}
 use Rattle.model.proofs.View.{shape-moves, then, turns, configured-moves, removal-moves, without-moves, noBlock}
 use Rattle.model.proofs.Rules.{RemovalFacts, block-rules}
-use Rattle.model.proofs.Sounds.{named-less, base-configured, base-removal, base-without, removes-made, removes-none}
+use Rattle.model.proofs.Turns.{Works, Turn, addsPages, settlesNowork, settlesOk, ends, same-blocks, sizes-then, flag-sizes, flag-now, flag-else, removal-blocks, new-removal}
+use Rattle.model.proofs.Sounds.{count-flag, named-less, base-configured, base-removal, base-without, removes-made, removes-none}
 use Rattle.model.proofs.Mask.{unconfigured-set}
 use Rattle.model.proofs.Replies.{short-empty, results-short, result-length}
 use Rattle.model.proofs.Events.{codeEnd, collected-fits, settled-fits, end-fits}
@@ -72,6 +73,7 @@ less-collected n room e h = ltb-true n room (rw (ne-eqb room 0 (λ q. omega arit
 
 -- A step that works on block i: the removal goes on, and the record at the position names that block, which has no permanent page.
 pub record Working (s : List ℕ) (m : Removal) (i : ℕ) : Type 0 where
+  pub goesOn : m .cancelled ≡ false
   pub more : m .position < m .count
   pub named : blockNow s m ≡ At i
   pub movable : blockAt s i .permanent ≡ 0
@@ -79,28 +81,31 @@ pub record Working (s : List ℕ) (m : Removal) (i : ℕ) : Type 0 where
 -- What holds of each thing that a step does holds of the step.
 pub record OnStep (P : WorkStep → Type 0) (s : List ℕ) (m : Removal) (budget : ℕ) : Type 0 where
   pub onEnd : P (moving 0 (ending s m))
-  pub onNowork : (i : ℕ) → Working s m i → P (moving 0 (effect (settledEvent (m .channel) (m .position) DR-MEM-RES-NOWORK 0 i) (withRemoval s (settled m DR-MEM-RES-NOWORK)) []))
+  pub onNowork : (i : ℕ) → Working s m i → blockAt s i .configured ≡ 0 → P (moving 0 (effect (settledEvent (m .channel) (m .position) DR-MEM-RES-NOWORK 0 i) (withRemoval s (settled m DR-MEM-RES-NOWORK)) []))
   pub onCollect : (i : ℕ) → Working s m i → (blockAt s i .configured ≡ 0 → ⊥) → P (moving (pagesMoved s m i budget) (collects s m i (pagesMoved s m i budget)))
 
 pub on-step : (P : WorkStep → Type 0) (s : List ℕ) (m : Removal) (budget : ℕ) → OnStep P s m budget → P (stepOf s m budget)
 unfolding stepOf
 on-step P s m budget o =
     on-pick P _ _ _ (λ e. o .onEnd)
-    (λ e. go (leb-false _ _ (or-false _ _ e .1)) (blockNow s m) refl)
+    (λ e. go (or-false _ _ e .0) (leb-false _ _ (or-false _ _ e .1)) (blockNow s m) refl)
   where
-    go : m .position < m .count → (x : Found) → blockNow s m ≡ x → P (worksAt s m budget x)
-    go h (At i) q =
+    go : m .cancelled ≡ false → m .position < m .count → (x : Found) → blockNow s m ≡ x → P (worksAt s m budget x)
+    go f h (At i) q =
         unfold worksAt worksOn in
         (on-pick P _ _ _
         (λ z.
-        let w : Working s m i = record { more = h; named = q; movable = eqb-true _ 0 z } in
-        on-pick P _ _ _ (λ y. o .onNowork i w) (λ y. o .onCollect i w (eqb-false _ 0 y)))
+        let w : Working s m i = record { goesOn = f; more = h; named = q; movable = eqb-true _ 0 z } in
+        on-pick P _ _ _ (λ y. o .onNowork i w (eqb-true _ 0 y)) (λ y. o .onCollect i w (eqb-false _ 0 y)))
         (λ z. o .onEnd))
-    go h Nowhere q = unfold worksAt in (o .onEnd)
+    go f h Nowhere q = unfold worksAt in (o .onEnd)
 
 module _ (s : List ℕ) (g : Given s) (o : isSet (outstandingOf s) ≡ true) where
   facts : RemovalFacts s (lastOf s + 1) (removalOf s)
   facts = removes-now s g o .facts
+
+  works : (i : ℕ) → Working s (removalOf s) i → Works s i
+  works i w = record { goesOn = w .goesOn; more = w .more; named = w .named; one = removes-now s g o .one }
 
   settled-arrays : (r : ℕ) → Arrays (settled (removalOf s) r)
   unfolding settled
@@ -128,12 +133,12 @@ module _ (s : List ℕ) (g : Given s) (o : isSet (outstandingOf s) ≡ true) whe
   place-few h = omega (arith, facts .few)
 
   -- 14
-  collected-good : (n room : ℕ) → n ≤ mostBudget → removalRoom s (removalOf s) ≡ room → removalOf s .collected + n < room → Good s (effect (collectedEvent (removalOf s .channel) n) (withRemoval s (collecting (removalOf s) n)) [])
+  collected-good : (i n : ℕ) → Working s (removalOf s) i → 1 ≤ n → n ≤ mostBudget → removalRoom s (removalOf s) ≡ blockAt s i .pages → removalOf s .collected + n < blockAt s i .pages → Good s (effect (collectedEvent (removalOf s .channel) n) (withRemoval s (collecting (removalOf s) n)) [])
   unfolding fieldsOf read pick collecting addedPages removalRoom resultsSound
-  collected-good n room l e h =
+  collected-good i n w some l e h =
       let a = loaded-arrays s in
       let f = facts in
-      let same : removalRoom s (collecting (removalOf s) n) ≡ room = e in
+      let same : removalRoom s (collecting (removalOf s) n) ≡ blockAt s i .pages = e in
       removal-changed s g (collectedEvent (removalOf s .channel) n) [] (collecting (removalOf s) n)
       (record { addresses = a .addresses; sizes = a .sizes; results = a .results })
       (collected-fits _ _ (next-number s g) (f .channels) n l)
@@ -145,26 +150,29 @@ module _ (s : List ℕ) (g : Given s) (o : isSet (outstandingOf s) ≡ true) whe
         some = f .some;
         few = f .few;
         within = f .within;
-        room = rw same (collected-less (removalOf s .collected + n) room h);
+        room = rw same (collected-less (removalOf s .collected + n) (blockAt s i .pages) h);
         results = f .results;
       })
+      (λ blocks removal. addsPages i n (works i w) blocks removal some h refl)
 
   -- 15, NOWORK
-  nowork-good : (block : ℕ) → removalOf s .position < removalOf s .count → Good s (effect (settledEvent (removalOf s .channel) (removalOf s .position) DR-MEM-RES-NOWORK 0 block) (withRemoval s (settled (removalOf s) DR-MEM-RES-NOWORK)) [])
+  nowork-good : (block : ℕ) → Working s (removalOf s) block → blockAt s block .configured ≡ 0 → Good s (effect (settledEvent (removalOf s .channel) (removalOf s .position) DR-MEM-RES-NOWORK 0 block) (withRemoval s (settled (removalOf s) DR-MEM-RES-NOWORK)) [])
   unfolding fieldsOf read pick steppedRemoval
-  nowork-good block h =
+  nowork-good block w z =
       removal-changed s g (settledEvent (removalOf s .channel) (removalOf s .position) DR-MEM-RES-NOWORK 0 block) []
       (settled (removalOf s) DR-MEM-RES-NOWORK)
       (settled-arrays DR-MEM-RES-NOWORK)
-      (settled-fits _ _ (next-number s g) (facts .channels) _ _ 0 block (place-few h) (omega arith) (omega arith))
+      (settled-fits _ _ (next-number s g) (facts .channels) _ _ 0 block (place-few (w .more)) (omega arith) (omega arith))
       (unfold settled in rw (removing-now s g o))
       short-empty
-      (settled-facts s DR-MEM-RES-NOWORK h nowork-result)
+      (settled-facts s DR-MEM-RES-NOWORK (w .more) nowork-result)
+      (λ blocks removal. settlesNowork block (works block w) blocks removal z refl)
 
   -- 15, OK: the block's flag falls as well
-  taken-good : (k n : ℕ) → removalOf s .position < removalOf s .count → n ≤ mostBudget → k < blocksOf s → blockAt s k .permanent ≡ 0 → Good s (effect (settledEvent (removalOf s .channel) (removalOf s .position) DR-MEM-RES-OK n k) (withRemoval (withConfigured s k 0) (settled (removalOf s) DR-MEM-RES-OK)) [])
+  taken-good : (k n : ℕ) → Working s (removalOf s) k → n ≤ mostBudget → k < blocksOf s → (blockAt s k .configured ≡ 0 → ⊥) → removalOf s .collected + n ≡ blockAt s k .pages → Good s (effect (settledEvent (removalOf s .channel) (removalOf s .position) DR-MEM-RES-OK n k) (withRemoval (withConfigured s k 0) (settled (removalOf s) DR-MEM-RES-OK)) [])
   unfolding fieldsOf read pick steppedRemoval seeBlocks seeRemoval settled
-  taken-good k n h l kb z =
+  taken-good k n v l kb d q =
+      let h = v .more in
       let w = shape s g in
       let few : k < mostBlocks = omega (arith, w .few) in
       let a = configured-moves s w k 0 few in
@@ -177,10 +185,21 @@ module _ (s : List ℕ) (g : Given s) (o : isSet (outstandingOf s) ≡ true) whe
         fits = short-empty;
         base =
             base-removal (withConfigured s k 0) (lastOf s + 1) (settled (removalOf s) DR-MEM-RES-OK)
-            (base-configured s k 0 (g .size) (w .few) kb (lastOf s + 1) (omega arith) (λ q. absurd (q z)) (base-now s g));
+            (base-configured s k 0 (g .size) (w .few) kb (lastOf s + 1) (omega arith) (λ x. absurd (x (v .movable))) (base-now s g));
         removal =
             removes-made (withConfigured s k 0) (lastOf s + 1) (settled (removalOf s) DR-MEM-RES-OK) (w′ .size) (w′ .few) (settled-arrays DR-MEM-RES-OK)
             (settled-facts (withConfigured s k 0) DR-MEM-RES-OK h ok-result);
+        turn =
+            let m : Removal = settled (removalOf s) DR-MEM-RES-OK in
+            let b = removal-blocks (withConfigured s k 0) (settled (removalOf s) DR-MEM-RES-OK) (w′ .few) in
+            let c = count-flag s k 0 (g .size) (w .few) kb in
+            let r = new-removal (withConfigured s k 0) (settled (removalOf s) DR-MEM-RES-OK) (w′ .size) (settled-arrays DR-MEM-RES-OK) in
+            settlesOk k n (works k v)
+            (sizes-then s (withConfigured s k 0) (withRemoval (withConfigured s k 0) (settled (removalOf s) DR-MEM-RES-OK)) (flag-sizes s k 0 (g .size) (w .few) kb) (b .sizes))
+            (λ j n j-b. b .flags j (omega (arith, c)) ∙ flag-else s k 0 (g .size) (w .few) kb j n)
+            (b .flags k (omega (arith, c)) ∙ flag-now s k 0 (g .size) (w .few) kb)
+            (record { one = r .one; removal = r .removal })
+            d q refl;
       }
 
   -- 16
@@ -202,6 +221,9 @@ module _ (s : List ℕ) (g : Given s) (o : isSet (outstandingOf s) ≡ true) whe
     fits = f;
     base = base-without s (lastOf s + 1) (base-now s g);
     removal = removes-none (withoutRemoval s) (lastOf s + 1) (without-outstanding s (g .size));
+    turn =
+        ends (same-blocks s (withoutRemoval s) (g .facts .base .few) (λ j lo hi. without-frame s j (omega arith)))
+        (without-outstanding s (g .size)) (removes-now s g o .one) refl;
   }
 
   ending-good : Good s (ending s (removalOf s))
@@ -224,28 +246,31 @@ module _ (s : List ℕ) (g : Given s) (o : isSet (outstandingOf s) ≡ true) whe
   flag-one (suc zero) h n = refl
   flag-one (suc (suc c)) h n = absurd (omega arith)
 
-  collects-good : (i budget : ℕ) → budget ≤ mostBudget → Working s (removalOf s) i → (blockAt s i .configured ≡ 0 → ⊥) → Good s (collects s (removalOf s) i (pagesMoved s (removalOf s) i budget))
+  collects-good : (i budget : ℕ) → 1 ≤ budget → budget ≤ mostBudget → Working s (removalOf s) i → (blockAt s i .configured ≡ 0 → ⊥) → Good s (collects s (removalOf s) i (pagesMoved s (removalOf s) i budget))
   unfolding collects pagesMoved
-  collects-good i budget l w n =
+  collects-good i budget one l w n =
       let less = named-less s (addrNow (removalOf s)) (sizeNow (removalOf s)) i (w .named) in
       let b = block-rules _ _ (g .facts .base .blocks i less) .0 in
       let room = room-now i w (flag-one _ (b .flag) n) in
       let old = less-collected _ _ (facts .room) (omega (arith, room, b .some)) in
       on-pick (Good s) _ _ _
-      (λ q. taken-good i _ (w .more) (omega arith) less (w .movable))
+      (λ q. taken-good i _ w (omega arith) less n (eqb-true _ _ q))
       (λ q.
       let d = eqb-false _ _ q in
-      collected-good _ (blockAt s i .pages) (omega arith) room
+      collected-good i _ w (some (removalOf s .collected) budget (blockAt s i .pages) one (omega (arith, room, old))) (omega arith) room
       (below (removalOf s .collected) budget (blockAt s i .pages) (omega (arith, room, old)) d))
     where
       below : (c n p : ℕ) → c < p → (c + min n (p - c) ≡ p → ⊥) → c + min n (p - c) < p
       below c n p h d = omega arith
 
-pub working-good : (s : List ℕ) (g : Given s) (budget : ℕ) → isSet (outstandingOf s) ≡ true → budget ≤ mostBudget → Good s (working s budget .effects)
-working-good s g budget o l =
+      some : (c n p : ℕ) → 1 ≤ n → c < p → 1 ≤ min n (p - c)
+      some c n p h d = omega arith
+
+pub working-good : (s : List ℕ) (g : Given s) (budget : ℕ) → isSet (outstandingOf s) ≡ true → 1 ≤ budget → budget ≤ mostBudget → Good s (working s budget .effects)
+working-good s g budget o one l =
     on-step (λ (x : WorkStep). Good s (x .effects)) s (removalOf s) budget
     (record {
       onEnd = ending-good s g o;
-      onNowork = λ i w. nowork-good s g o i (w .more);
-      onCollect = λ i w n. collects-good s g o i budget l w n;
+      onNowork = λ i w z. nowork-good s g o i w z;
+      onCollect = λ i w n. collects-good s g o i budget one l w n;
     })
