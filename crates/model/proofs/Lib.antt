@@ -13,6 +13,7 @@ pub mod Effects
 pub mod MemoryEffects
 pub mod Configured
 pub mod WorkEffects
+pub mod Steps
 pub mod ReceiveEffects
 pub mod Calls
 pub mod Lists

@@ -144,7 +144,7 @@ module _ (s : List ℕ) (g : Given s) where
       short = unfold configureReply in results-short handle _ request n few _ (λ i. result-length (p .state) (addrIn b i) (sizeIn b i) _)
 
   -- The removal changed, and nothing else.
-  pub removal-changed : (e : Event) (reply : List ℕ) (m : Removal) → Arrays m → Fits (lastOf s + 1) e → readBy s e (viewOf s) ≡ seeRemoval (removing (m .cancelled) (m .position) (m .collected)) (viewOf s) → length reply ≤ outputBytes → RemovalFacts s (lastOf s + 1) m → (SameBlocks s (withRemoval s m) → NewRemoval s (withRemoval s m) m → Turn s (effect e (withRemoval s m) reply)) → Good s (effect e (withRemoval s m) reply)
+  pub removal-changed : (e : Event) (reply : List ℕ) (m : Removal) → Arrays m → Fits (lastOf s + 1) e → readBy s e (viewOf s) ≡ seeRemoval (removing (m .cancelled) (m .position) (m .collected)) (viewOf s) → length reply ≤ outputBytes → RemovalFacts s (lastOf s + 1) m → (SameBlocks s (withRemoval s m) → NewRemoval (withRemoval s m) m → Turn s (effect e (withRemoval s m) reply)) → Good s (effect e (withRemoval s m) reply)
   removal-changed e reply m a f q short facts turn = record {
     entry = f;
     moves = turns (readBy s e) (removal-moves s (shape s g) m a) (sym q);
@@ -176,7 +176,7 @@ module _ (s : List ℕ) (g : Given s) where
         room = collected-none (removalRoom s (newRemoval c handle request b n));
         results = refl;
       })
-      (λ blocks removal. begins (newRemoval c handle request b n) blocks removal refl refl refl o refl)
+      (λ blocks removal. begins (newRemoval c handle request b n) blocks removal refl o refl)
 
   -- what is shown of an outstanding removal
   pub removing-now : isSet (outstandingOf s) ≡ true → viewOf s .removal ≡ removing (removalOf s .cancelled) (removalOf s .position) (removalOf s .collected)

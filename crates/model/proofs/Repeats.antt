@@ -31,7 +31,7 @@ use Rattle.model.specs.Repeats.{Repeat, Repeats, Answered, requestIn, Se
 use Rattle.model.proofs.Choice.{clash, on-pick}
 use Rattle.model.proofs.Words.{loaded-arrays}
 use Rattle.model.proofs.View.{shape-moves}
-use Rattle.model.proofs.Turns.{Turn, leaves, configures, begins, marks, addsPages, settlesNowork, settlesOk, ends, aside}
+use Rattle.model.proofs.Steps.{Step, adds, nowork, ok, ends, step-of}
 use Rattle.model.proofs.Replies.{behind, record-stands, result-length, query-length}
 use Rattle.model.proofs.Rules.{sound-facts}
 use Rattle.model.proofs.Effects.{Given, shape}
@@ -45,11 +45,6 @@ use Rattle.model.proofs.Lists.{Kept, AfterCall, grown, shifted, on-list
 use Rattle.model.proofs.Demand3.{at-first, meets-before, meets-here}
 use Rattle.model.proofs.Settled.{settled-at, settled-none, settled-turn, settled-counted, accepted-removal}
 
--- a settled record's kind is of no other turn
-settled-not-aside : (kind : ℕ) → aside kind ≡ true → kind ≡ kindSettled → ⊥
-unfolding aside _or_
-settled-not-aside kind a k = clash _ refl (rw k at a)
-
 -- what a step that settles a repeat does
 module _ (s : List ℕ) (q : settledUnconfigured s ≡ true) (few : removalOf s .count ≤ mostRecords) (k : ℕ) (again : Repeat (addressAt (removalOf s)) (sizeAt (removalOf s)) k (removalOf s .position)) where
   -- its block is that of the earlier record
@@ -58,18 +53,14 @@ module _ (s : List ℕ) (q : settledUnconfigured s ≡ true) (few : removalOf s 
   repeat-unconfigured i one named =
       eqb-true _ 0 (rw (again .sameAddress, again .sameSize, named) at (settled-at s q one k (again .earlier)))
 
-  nowork-turn : (e : Effect) → Turn s e → e .event .kind ≡ kindSettled → (e .event .code ≡ DR-MEM-RES-NOWORK) × (getD (removalOf (e .state) .result) (removalOf s .position) 0 ≡ DR-MEM-RES-NOWORK)
-  nowork-turn e (leaves b r a) h = absurd (settled-not-aside _ a h)
-  nowork-turn e (configures b o o′ a) h = absurd (settled-not-aside _ a h)
-  nowork-turn e (begins m b r p c x o y) h = absurd (omega (arith, y, h))
-  nowork-turn e (marks b r o y) h = absurd (omega (arith, y, h))
-  nowork-turn e (addsPages i n w b r some less ev) h = absurd (omega (arith, ap (λ (v : Event). v .kind) ev, h))
-  nowork-turn e (settlesNowork i w b r z ev) h = (
+  nowork-step : (e : Effect) → Step s e → outstandingOf s ≡ 1 → e .event .kind ≡ kindSettled → (e .event .code ≡ DR-MEM-RES-NOWORK) × (getD (removalOf (e .state) .result) (removalOf s .position) 0 ≡ DR-MEM-RES-NOWORK)
+  nowork-step e (adds i n w b r ev) o h = absurd (omega (arith, ap (λ (v : Event). v .kind) ev, h))
+  nowork-step e (nowork i w b r z ev) o h = (
     ap (λ (v : Event). v .code) ev,
     rw (r .removal) (unfold settled in (getD-set-same (removalOf s .result) (removalOf s .position) DR-MEM-RES-NOWORK 0 (omega (arith, loaded-arrays s .results, w .more)))),
   )
-  nowork-turn e (settlesOk i n w b other now r d p ev) h = absurd (d (repeat-unconfigured i (w .one) (w .named)))
-  nowork-turn e (ends b o one y) h = absurd (omega (arith, y, h))
+  nowork-step e (ok i n w b other now r d ev) o h = absurd (d (repeat-unconfigured i o (w .named)))
+  nowork-step e (ends b z y) o h = absurd (omega (arith, y, h))
 
 -- an accepted step that settles a repeat
 settles-nowork : (s j out : List ℕ) (budget : ℕ) (r : Outcome) → length s ≡ stateWords → settledUnconfigured s ≡ true → r ≡ outcome s j (act (work budget) out) → r .refusal ≡ 0 → noted r .kind ≡ kindSettled → (k : ℕ) → Repeat (addressAt (removalOf s)) (sizeAt (removalOf s)) k (removalOf s .position) → SettledNowork (removalOf s) r
@@ -80,8 +71,9 @@ settles-nowork s j out budget r size q same z settles k again =
     go y h =
         let t = taken s j out (work budget) size y in
         let n = noted-is s j out (pagesOf s (work budget)) (effectOf s (work budget)) t in
-        let few = t .given .facts .removal (work-allowed s j out budget y) .facts .few in
-        let p = nowork-turn s q few k again (effectOf s (work budget)) (t .good .turn) (ap (λ (v : Event). v .kind) (sym n) ∙ h) in
+        let one = t .given .facts .removal (work-allowed s j out budget y) in
+        let step : Step s (effectOf s (work budget)) = unfold effectOf in (step-of s (t .given) (work-allowed s j out budget y) budget) in
+        let p = nowork-step s q (one .facts .few) k again (effectOf s (work budget)) step (one .one) (ap (λ (v : Event). v .kind) (sym n) ∙ h) in
         record {
           inEntry = ap (λ (v : Event). v .code) n ∙ p .0;
           inState = rw (accepted-removal s j out (pagesOf s (work budget)) (effectOf s (work budget)) .removal) (p .1);
@@ -185,7 +177,7 @@ after-call b u k q = record {
       λ a out z.
       let t = taken (u .state) (u .journal) out a (k .size) z in
       settled-counted (effectOf (u .state) a .state) _ _ (shape-moves (t .good .moves) (shape (u .state) (t .given)) .few)
-      (settled-turn (u .state) (effectOf (u .state) a) (t .good .turn) q);
+      (settled-turn (u .state) (t .given) (effectOf (u .state) a) (t .good .turn) q);
   onDrain = λ n h. settled-counted (u .state) _ _ (sound-facts (u .state) (k .sounds) .base .few) q;
   onRefusal = q;
 }

@@ -15,13 +15,15 @@ use Rattle.model.specs.Layout.{blockAt, blocksOf, lastOf, heldOf, outsta
 use Rattle.model.specs.Blocks.{namedBlock}
 use Rattle.model.specs.Memory.{marked}
 use Rattle.model.specs.Messages.{Effect}
-use Rattle.model.specs.Work.{settled, collecting}
+use Rattle.model.specs.Work.{settled, collecting, working}
 use Rattle.model.specs.Calls.{accepted}
 use Rattle.model.specs.Repeats.{isUnconfigured, settledUnconfigured, addressAt, sizeAt}
 use Rattle.model.proofs.Choice.{every-at, every-make, or-true}
 use Rattle.model.proofs.Words.{counts-frame}
 use Rattle.model.proofs.Sounds.{named-less}
-use Rattle.model.proofs.Turns.{SameBlocks, SameRemoval, same-blocks, same-removal, Turn, leaves, configures, begins, marks, addsPages, settlesNowork, settlesOk, ends}
+use Rattle.model.proofs.Turns.{SameBlocks, SameRemoval, same-blocks, same-removal, Turn, leaves, configures, begins, marks, steps}
+use Rattle.model.proofs.Effects.{Given}
+use Rattle.model.proofs.Steps.{Step, adds, nowork, ok, ends, step-of}
 
 -- the block of record i of a removal
 abbrev blockOf : List ℕ → Removal → ℕ → Found
@@ -81,40 +83,44 @@ more-settled t m m′ p a z f here i h = rw (a, z) (go (eqb i (m .position)) ref
         less : (a b : ℕ) → a < b + 1 → (a ≡ b → ⊥) → a < b
         less a b l n = omega arith
 
--- every effect keeps it
-pub settled-turn : (s : List ℕ) (e : Effect) → Turn s e → settledUnconfigured s ≡ true → settledUnconfigured (e .state) ≡ true
-settled-turn s e (leaves b r a) q = settled-same s (e .state) b r q
-settled-turn s e (configures b o o′ a) q = settled-none (e .state) o′
-settled-turn s e (begins m b r p c x o k) q = settled-make (e .state) (rw (r .removal) (λ i h. absurd (omega (arith, p))))
-settled-turn s e (marks b r o k) q =
+-- a work step keeps it
+settled-step : (s : List ℕ) (e : Effect) → Step s e → outstandingOf s ≡ 1 → settledUnconfigured s ≡ true → settledUnconfigured (e .state) ≡ true
+settled-step s e (adds i n w b r ev) o q =
     settled-make (e .state)
     (rw (r .removal)
-    (same-kept s (e .state) b (removalOf s) (marked (removalOf s)) (unfold marked in refl) (unfold marked in refl) (unfold marked in refl) (settled-at s q o)))
-settled-turn s e (addsPages i n w b r some less ev) q =
-    settled-make (e .state)
-    (rw (r .removal)
-    (same-kept s (e .state) b (removalOf s) (collecting (removalOf s) n) (unfold collecting in refl) (unfold collecting in refl) (unfold collecting in refl) (settled-at s q (w .one))))
-settled-turn s e (settlesNowork i w b r z ev) q =
+    (same-kept s (e .state) b (removalOf s) (collecting (removalOf s) n) (unfold collecting in refl) (unfold collecting in refl) (unfold collecting in refl) (settled-at s q o)))
+settled-step s e (nowork i w b r z ev) o q =
     settled-make (e .state)
     (rw (r .removal)
     (more-settled (e .state) (removalOf s) (settled (removalOf s) _) (unfold settled in refl) (unfold settled in refl) (unfold settled in refl)
-    (same-kept s (e .state) b (removalOf s) (removalOf s) refl refl refl (settled-at s q (w .one)))
+    (same-kept s (e .state) b (removalOf s) (removalOf s) refl refl refl (settled-at s q o))
     (rw (b .sizes .named (addressAt (removalOf s) (removalOf s .position)) (sizeAt (removalOf s) (removalOf s .position)), w .named)
     (unfold isUnconfigured in (eq-eqb _ 0 (b .flags i (named-less s _ _ i (w .named)) ∙ z))))))
-settled-turn s e (settlesOk i n w b other now r d p ev) q =
+settled-step s e (ok i n w b other now r d ev) o q =
     settled-make (e .state)
     (rw (r .removal)
     (more-settled (e .state) (removalOf s) (settled (removalOf s) _) (unfold settled in refl) (unfold settled in refl) (unfold settled in refl)
     (λ k h.
     rw (b .named (addressAt (removalOf s) k) (sizeAt (removalOf s) k))
-    (unconfigured-kept s (e .state) (blockOf s (removalOf s) k) (λ x f z. falls x (named-less s _ _ x f) z (eqb x i) refl) (settled-at s q (w .one) k h)))
+    (unconfigured-kept s (e .state) (blockOf s (removalOf s) k) (λ x f z. falls x (named-less s _ _ x f) z (eqb x i) refl) (settled-at s q o k h)))
     (rw (b .named (addressAt (removalOf s) (removalOf s .position)) (sizeAt (removalOf s) (removalOf s .position)), w .named)
     (unfold isUnconfigured in (eq-eqb _ 0 now)))))
   where
     falls : (x : ℕ) → x < blocksOf s → blockAt s x .configured ≡ 0 → (y : Bool) → eqb x i ≡ y → blockAt (e .state) x .configured ≡ 0
     falls x l z true y = rw (eqb-true x i y) now
     falls x l z false y = other x (eqb-false x i y) l ∙ z
-settled-turn s e (ends b o one k) q = settled-none (e .state) o
+settled-step s e (ends b o k) one q = settled-none (e .state) o
+
+-- every effect keeps it
+pub settled-turn : (s : List ℕ) → Given s → (e : Effect) → Turn s e → settledUnconfigured s ≡ true → settledUnconfigured (e .state) ≡ true
+settled-turn s g e (leaves b r a) q = settled-same s (e .state) b r q
+settled-turn s g e (configures b o o′ a) q = settled-none (e .state) o′
+settled-turn s g e (begins m b r p o k) q = settled-make (e .state) (rw (r .removal) (λ i h. absurd (omega (arith, p))))
+settled-turn s g e (marks b r o k) q =
+    settled-make (e .state)
+    (rw (r .removal)
+    (same-kept s (e .state) b (removalOf s) (marked (removalOf s)) (unfold marked in refl) (unfold marked in refl) (unfold marked in refl) (settled-at s q o)))
+settled-turn s g e (steps budget some o same) q = rw same (settled-step s (working s budget .effects) (step-of s g (rw o) budget) o q)
 
 -- and so does counting an entry
 pub counted-blocks : (s : List ℕ) (last held : ℕ) → blocksOf s ≤ mostBlocks → SameBlocks s (withCounts s last held)

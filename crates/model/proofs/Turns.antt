@@ -13,11 +13,11 @@ use Rattle.model.specs.declared.Found.the-variants.{At, Nowhere}
 use Rattle.model.specs.declared.Removal.{Removal}
 use Rattle.model.specs.Layout.{Block, blockAt, blocksOf, outstandingOf, removalOf, withConfigured, withRemoval, withoutRemoval, withCounts, blockCountWord, lastWord, outstandingWord, stateWords, mostBlocks, mostRecords}
 use Rattle.model.specs.Blocks.{names, namedBlock}
-use Rattle.model.specs.Journal.{kindBegun, kindCancelled, kindRemovalEnd, collectedEvent, settledEvent}
-use Rattle.model.specs.Memory.{DR-MEM-RES-OK, DR-MEM-RES-NOWORK, marked}
+use Rattle.model.specs.Journal.{kindBegun, kindCancelled, kindRemovalEnd}
+use Rattle.model.specs.Memory.{marked}
 use Rattle.model.specs.Messages.{Effect}
 use Rattle.model.specs.Reading.{flagged}
-use Rattle.model.specs.Work.{blockNow, settled, collecting}
+use Rattle.model.specs.Work.{working}
 use Rattle.model.proofs.Choice.{first-same}
 use Rattle.model.proofs.Words.{Agree, Arrays, configured-frame, counts-frame, removal-frame, removal-same, removal-back, head-back, without-frame, without-outstanding}
 use Rattle.model.proofs.View.{Shape}
@@ -87,12 +87,12 @@ same-removal s t a = record {
   removal = removal-same s t a;
 }
 
--- A removal stored over others' words.
-pub record NewRemoval (s t : List ℕ) (m : Removal) : Type 0 where
+-- A removal is outstanding, and it is m.
+pub record NewRemoval (t : List ℕ) (m : Removal) : Type 0 where
   pub one : outstandingOf t ≡ 1
   pub removal : removalOf t ≡ m
 
-pub new-removal : (s : List ℕ) (m : Removal) → length s ≡ stateWords → Arrays m → NewRemoval s (withRemoval s m) m
+pub new-removal : (s : List ℕ) (m : Removal) → length s ≡ stateWords → Arrays m → NewRemoval (withRemoval s m) m
 new-removal s m size a = record { one = head-back s m size a 0 (omega arith); removal = removal-back s m size a }
 
 pub removal-blocks : (s : List ℕ) (m : Removal) → blocksOf s ≤ mostBlocks → SameBlocks s (withRemoval s m)
@@ -101,13 +101,6 @@ removal-blocks s m few = same-blocks s (withRemoval s m) few (λ j lo hi. remova
 -- A kind that tells nothing of a removal: none of 12 to 16.
 unfoldable pub aside : ℕ → Bool
 aside kind = ltb kind kindBegun or ltb kindRemovalEnd kind
-
--- A step on block i, which the record at the position names.
-pub record Works (s : List ℕ) (i : ℕ) : Type 0 where
-  pub goesOn : removalOf s .cancelled ≡ false
-  pub more : removalOf s .position < removalOf s .count
-  pub named : blockNow s (removalOf s) ≡ At i
-  pub one : outstandingOf s ≡ 1
 
 -- What an effect of a state s does.
 pub data Turn (s : List ℕ) (e : Effect) : Type 0 where
@@ -118,48 +111,16 @@ pub data Turn (s : List ℕ) (e : Effect) : Type 0 where
   begins :
       (m : Removal) →
       SameBlocks s (e .state) →
-      NewRemoval s (e .state) m →
+      NewRemoval (e .state) m →
       m .position ≡ 0 →
-      m .collected ≡ 0 →
-      m .cancelled ≡ false →
       outstandingOf s ≡ 0 →
       e .event .kind ≡ kindBegun →
       Turn s e
   marks :
       SameBlocks s (e .state) →
-      NewRemoval s (e .state) (marked (removalOf s)) →
+      NewRemoval (e .state) (marked (removalOf s)) →
       outstandingOf s ≡ 1 →
       e .event .kind ≡ kindCancelled →
       Turn s e
-  -- a work step: n pages more of block i are collected, and not all yet
-  addsPages :
-      (i n : ℕ) →
-      Works s i →
-      SameBlocks s (e .state) →
-      NewRemoval s (e .state) (collecting (removalOf s) n) →
-      1 ≤ n →
-      removalOf s .collected + n < blockAt s i .pages →
-      e .event ≡ collectedEvent (removalOf s .channel) n →
-      Turn s e
-  -- the record is settled NOWORK
-  settlesNowork :
-      (i : ℕ) →
-      Works s i →
-      SameBlocks s (e .state) →
-      NewRemoval s (e .state) (settled (removalOf s) DR-MEM-RES-NOWORK) →
-      blockAt s i .configured ≡ 0 →
-      e .event ≡ settledEvent (removalOf s .channel) (removalOf s .position) DR-MEM-RES-NOWORK 0 i →
-      Turn s e
-  -- the last n pages of block i are collected, and it is settled OK
-  settlesOk :
-      (i n : ℕ) →
-      Works s i →
-      SameSizes s (e .state) →
-      ((k : ℕ) → (k ≡ i → ⊥) → k < blocksOf s → blockAt (e .state) k .configured ≡ blockAt s k .configured) →
-      blockAt (e .state) i .configured ≡ 0 →
-      NewRemoval s (e .state) (settled (removalOf s) DR-MEM-RES-OK) →
-      (blockAt s i .configured ≡ 0 → ⊥) →
-      removalOf s .collected + n ≡ blockAt s i .pages →
-      e .event ≡ settledEvent (removalOf s .channel) (removalOf s .position) DR-MEM-RES-OK n i →
-      Turn s e
-  ends : SameBlocks s (e .state) → outstandingOf (e .state) ≡ 0 → outstandingOf s ≡ 1 → e .event .kind ≡ kindRemovalEnd → Turn s e
+  -- it is a work step, with a budget in range; Steps.antt says what that does
+  steps : (budget : ℕ) → 1 ≤ budget → outstandingOf s ≡ 1 → e ≡ working s budget .effects → Turn s e

@@ -16,15 +16,15 @@ use Rattle.model.specs.declared.Removal.{Removal}
 use Rattle.model.specs.Layout.{blocksOf, Block, blockAt, lastOf, outstandingOf, isSet, removalOf, withConfigured, withRemoval, withoutRemoval, mostBlocks, mostBudget, mostRecords, outputBytes}
 use Rattle.model.specs.State.{removalRoom, collectedSound, resultsSound, resultSound, roomAt}
 use Rattle.model.specs.Journal.{fieldsOf, collectedEvent, settledEvent, removalEndEvent}
-use Rattle.model.specs.Messages.{effect}
+use Rattle.model.specs.Messages.{Effect, effect}
 use Rattle.model.specs.Work.{addrNow, sizeNow, blockNow, endCode, lateReply, ending, settled, collecting, pagesMoved, collects, worksOn, stepOf, working, WorkStep, failingCode, moving, worksAt}
 use Rattle.model.specs.Reading.{read, seeBlocks, seeRemoval, flagged, unconfiguredIn, steppedRemoval, addedPages, blocksShown, viewOf}
 use Rattle.model.proofs.Choice.{on-pick, or-false, every-at, every-make}
-use Rattle.model.proofs.Words.{Arrays, loaded-arrays, without-frame, without-outstanding}
+use Rattle.model.proofs.Words.{Arrays, loaded-arrays, without-outstanding}
 use Rattle.model.proofs.View.{shape-moves, then, turns, configured-moves, removal-moves, without-moves, noBlock}
 use Rattle.model.proofs.Rules.{RemovalFacts, block-rules}
-use Rattle.model.proofs.Turns.{Works, Turn, addsPages, settlesNowork, settlesOk, ends, same-blocks, sizes-then, flag-sizes, flag-now, flag-else, removal-blocks, new-removal}
-use Rattle.model.proofs.Sounds.{count-flag, named-less, base-configured, base-removal, base-without, removes-made, removes-none}
+use Rattle.model.proofs.Turns.{Turn, steps}
+use Rattle.model.proofs.Sounds.{named-less, base-configured, base-removal, base-without, removes-made, removes-none}
 use Rattle.model.proofs.Mask.{unconfigured-set}
 use Rattle.model.proofs.Replies.{short-empty, results-short, result-length}
 use Rattle.model.proofs.Events.{codeEnd, collected-fits, settled-fits, end-fits}
@@ -104,10 +104,7 @@ module _ (s : List ℕ) (g : Given s) (o : isSet (outstandingOf s) ≡ true) whe
   facts : RemovalFacts s (lastOf s + 1) (removalOf s)
   facts = removes-now s g o .facts
 
-  works : (i : ℕ) → Working s (removalOf s) i → Works s i
-  works i w = record { goesOn = w .goesOn; more = w .more; named = w .named; one = removes-now s g o .one }
-
-  settled-arrays : (r : ℕ) → Arrays (settled (removalOf s) r)
+  pub settled-arrays : (r : ℕ) → Arrays (settled (removalOf s) r)
   unfolding settled
   settled-arrays r =
       let a = loaded-arrays s in
@@ -133,12 +130,12 @@ module _ (s : List ℕ) (g : Given s) (o : isSet (outstandingOf s) ≡ true) whe
   place-few h = omega (arith, facts .few)
 
   -- 14
-  collected-good : (i n : ℕ) → Working s (removalOf s) i → 1 ≤ n → n ≤ mostBudget → removalRoom s (removalOf s) ≡ blockAt s i .pages → removalOf s .collected + n < blockAt s i .pages → Good s (effect (collectedEvent (removalOf s .channel) n) (withRemoval s (collecting (removalOf s) n)) [])
+  collected-good : (n room : ℕ) → n ≤ mostBudget → removalRoom s (removalOf s) ≡ room → removalOf s .collected + n < room → Turn s (effect (collectedEvent (removalOf s .channel) n) (withRemoval s (collecting (removalOf s) n)) []) → Good s (effect (collectedEvent (removalOf s .channel) n) (withRemoval s (collecting (removalOf s) n)) [])
   unfolding fieldsOf read pick collecting addedPages removalRoom resultsSound
-  collected-good i n w some l e h =
+  collected-good n room l e h turn =
       let a = loaded-arrays s in
       let f = facts in
-      let same : removalRoom s (collecting (removalOf s) n) ≡ blockAt s i .pages = e in
+      let same : removalRoom s (collecting (removalOf s) n) ≡ room = e in
       removal-changed s g (collectedEvent (removalOf s .channel) n) [] (collecting (removalOf s) n)
       (record { addresses = a .addresses; sizes = a .sizes; results = a .results })
       (collected-fits _ _ (next-number s g) (f .channels) n l)
@@ -150,29 +147,28 @@ module _ (s : List ℕ) (g : Given s) (o : isSet (outstandingOf s) ≡ true) whe
         some = f .some;
         few = f .few;
         within = f .within;
-        room = rw same (collected-less (removalOf s .collected + n) (blockAt s i .pages) h);
+        room = rw same (collected-less (removalOf s .collected + n) room h);
         results = f .results;
       })
-      (λ blocks removal. addsPages i n (works i w) blocks removal some h refl)
+      (λ blocks removal. turn)
 
   -- 15, NOWORK
-  nowork-good : (block : ℕ) → Working s (removalOf s) block → blockAt s block .configured ≡ 0 → Good s (effect (settledEvent (removalOf s .channel) (removalOf s .position) DR-MEM-RES-NOWORK 0 block) (withRemoval s (settled (removalOf s) DR-MEM-RES-NOWORK)) [])
+  nowork-good : (block : ℕ) → removalOf s .position < removalOf s .count → Turn s (effect (settledEvent (removalOf s .channel) (removalOf s .position) DR-MEM-RES-NOWORK 0 block) (withRemoval s (settled (removalOf s) DR-MEM-RES-NOWORK)) []) → Good s (effect (settledEvent (removalOf s .channel) (removalOf s .position) DR-MEM-RES-NOWORK 0 block) (withRemoval s (settled (removalOf s) DR-MEM-RES-NOWORK)) [])
   unfolding fieldsOf read pick steppedRemoval
-  nowork-good block w z =
+  nowork-good block h turn =
       removal-changed s g (settledEvent (removalOf s .channel) (removalOf s .position) DR-MEM-RES-NOWORK 0 block) []
       (settled (removalOf s) DR-MEM-RES-NOWORK)
       (settled-arrays DR-MEM-RES-NOWORK)
-      (settled-fits _ _ (next-number s g) (facts .channels) _ _ 0 block (place-few (w .more)) (omega arith) (omega arith))
+      (settled-fits _ _ (next-number s g) (facts .channels) _ _ 0 block (place-few h) (omega arith) (omega arith))
       (unfold settled in rw (removing-now s g o))
       short-empty
-      (settled-facts s DR-MEM-RES-NOWORK (w .more) nowork-result)
-      (λ blocks removal. settlesNowork block (works block w) blocks removal z refl)
+      (settled-facts s DR-MEM-RES-NOWORK h nowork-result)
+      (λ blocks removal. turn)
 
   -- 15, OK: the block's flag falls as well
-  taken-good : (k n : ℕ) → Working s (removalOf s) k → n ≤ mostBudget → k < blocksOf s → (blockAt s k .configured ≡ 0 → ⊥) → removalOf s .collected + n ≡ blockAt s k .pages → Good s (effect (settledEvent (removalOf s .channel) (removalOf s .position) DR-MEM-RES-OK n k) (withRemoval (withConfigured s k 0) (settled (removalOf s) DR-MEM-RES-OK)) [])
+  taken-good : (k n : ℕ) → removalOf s .position < removalOf s .count → n ≤ mostBudget → k < blocksOf s → blockAt s k .permanent ≡ 0 → Turn s (effect (settledEvent (removalOf s .channel) (removalOf s .position) DR-MEM-RES-OK n k) (withRemoval (withConfigured s k 0) (settled (removalOf s) DR-MEM-RES-OK)) []) → Good s (effect (settledEvent (removalOf s .channel) (removalOf s .position) DR-MEM-RES-OK n k) (withRemoval (withConfigured s k 0) (settled (removalOf s) DR-MEM-RES-OK)) [])
   unfolding fieldsOf read pick steppedRemoval seeBlocks seeRemoval settled
-  taken-good k n v l kb d q =
-      let h = v .more in
+  taken-good k n h l kb z turn =
       let w = shape s g in
       let few : k < mostBlocks = omega (arith, w .few) in
       let a = configured-moves s w k 0 few in
@@ -185,21 +181,11 @@ module _ (s : List ℕ) (g : Given s) (o : isSet (outstandingOf s) ≡ true) whe
         fits = short-empty;
         base =
             base-removal (withConfigured s k 0) (lastOf s + 1) (settled (removalOf s) DR-MEM-RES-OK)
-            (base-configured s k 0 (g .size) (w .few) kb (lastOf s + 1) (omega arith) (λ x. absurd (x (v .movable))) (base-now s g));
+            (base-configured s k 0 (g .size) (w .few) kb (lastOf s + 1) (omega arith) (λ q. absurd (q z)) (base-now s g));
         removal =
             removes-made (withConfigured s k 0) (lastOf s + 1) (settled (removalOf s) DR-MEM-RES-OK) (w′ .size) (w′ .few) (settled-arrays DR-MEM-RES-OK)
             (settled-facts (withConfigured s k 0) DR-MEM-RES-OK h ok-result);
-        turn =
-            let m : Removal = settled (removalOf s) DR-MEM-RES-OK in
-            let b = removal-blocks (withConfigured s k 0) (settled (removalOf s) DR-MEM-RES-OK) (w′ .few) in
-            let c = count-flag s k 0 (g .size) (w .few) kb in
-            let r = new-removal (withConfigured s k 0) (settled (removalOf s) DR-MEM-RES-OK) (w′ .size) (settled-arrays DR-MEM-RES-OK) in
-            settlesOk k n (works k v)
-            (sizes-then s (withConfigured s k 0) (withRemoval (withConfigured s k 0) (settled (removalOf s) DR-MEM-RES-OK)) (flag-sizes s k 0 (g .size) (w .few) kb) (b .sizes))
-            (λ j n j-b. b .flags j (omega (arith, c)) ∙ flag-else s k 0 (g .size) (w .few) kb j n)
-            (b .flags k (omega (arith, c)) ∙ flag-now s k 0 (g .size) (w .few) kb)
-            (record { one = r .one; removal = r .removal })
-            d q refl;
+        turn = turn;
       }
 
   -- 16
@@ -213,23 +199,21 @@ module _ (s : List ℕ) (g : Given s) (o : isSet (outstandingOf s) ≡ true) whe
       failing (At i) = unfold failingCode in (omega arith)
       failing Nowhere = unfold failingCode in (omega arith)
 
-  end-good : (replied : ℕ) (reply : List ℕ) → replied ≤ 1 → length reply ≤ outputBytes → Good s (effect (removalEndEvent (removalOf s .channel) (endCode s (removalOf s)) replied (removalOf s .request)) (withoutRemoval s) reply)
+  end-good : (replied : ℕ) (reply : List ℕ) → replied ≤ 1 → length reply ≤ outputBytes → Turn s (effect (removalEndEvent (removalOf s .channel) (endCode s (removalOf s)) replied (removalOf s .request)) (withoutRemoval s) reply) → Good s (effect (removalEndEvent (removalOf s .channel) (endCode s (removalOf s)) replied (removalOf s .request)) (withoutRemoval s) reply)
   unfolding fieldsOf read pick
-  end-good replied reply r f = record {
+  end-good replied reply r f turn = record {
     entry = end-fits _ _ (next-number s g) (facts .channels) _ replied _ code-small r;
     moves = without-moves s (shape s g);
     fits = f;
     base = base-without s (lastOf s + 1) (base-now s g);
     removal = removes-none (withoutRemoval s) (lastOf s + 1) (without-outstanding s (g .size));
-    turn =
-        ends (same-blocks s (withoutRemoval s) (g .facts .base .few) (λ j lo hi. without-frame s j (omega arith)))
-        (without-outstanding s (g .size)) (removes-now s g o .one) refl;
+    turn = turn;
   }
 
-  ending-good : Good s (ending s (removalOf s))
+  ending-good : Turn s (ending s (removalOf s)) → Good s (ending s (removalOf s))
   unfolding ending
   ending-good =
-      on-pick (Good s) _ _ _ (λ e. end-good 1 _ (omega arith) late-short) (λ e. end-good 0 [] (omega arith) short-empty)
+      on-pick (λ (e : Effect). Turn s e → Good s e) _ _ _ (λ e. end-good 1 _ (omega arith) late-short) (λ e. end-good 0 [] (omega arith) short-empty)
     where
       late-short : length (lateReply s (removalOf s)) ≤ outputBytes
       late-short =
@@ -246,31 +230,23 @@ module _ (s : List ℕ) (g : Given s) (o : isSet (outstandingOf s) ≡ true) whe
   flag-one (suc zero) h n = refl
   flag-one (suc (suc c)) h n = absurd (omega arith)
 
-  collects-good : (i budget : ℕ) → 1 ≤ budget → budget ≤ mostBudget → Working s (removalOf s) i → (blockAt s i .configured ≡ 0 → ⊥) → Good s (collects s (removalOf s) i (pagesMoved s (removalOf s) i budget))
+  collects-good : (i budget : ℕ) → budget ≤ mostBudget → Working s (removalOf s) i → (blockAt s i .configured ≡ 0 → ⊥) → Turn s (collects s (removalOf s) i (pagesMoved s (removalOf s) i budget)) → Good s (collects s (removalOf s) i (pagesMoved s (removalOf s) i budget))
   unfolding collects pagesMoved
-  collects-good i budget one l w n =
+  collects-good i budget l w n =
       let less = named-less s (addrNow (removalOf s)) (sizeNow (removalOf s)) i (w .named) in
       let b = block-rules _ _ (g .facts .base .blocks i less) .0 in
       let room = room-now i w (flag-one _ (b .flag) n) in
       let old = less-collected _ _ (facts .room) (omega (arith, room, b .some)) in
-      on-pick (Good s) _ _ _
-      (λ q. taken-good i _ w (omega arith) less n (eqb-true _ _ q))
-      (λ q.
-      let d = eqb-false _ _ q in
-      collected-good i _ w (some (removalOf s .collected) budget (blockAt s i .pages) one (omega (arith, room, old))) (omega arith) room
-      (below (removalOf s .collected) budget (blockAt s i .pages) (omega (arith, room, old)) d))
-    where
-      below : (c n p : ℕ) → c < p → (c + min n (p - c) ≡ p → ⊥) → c + min n (p - c) < p
-      below c n p h d = omega arith
-
-      some : (c n p : ℕ) → 1 ≤ n → c < p → 1 ≤ min n (p - c)
-      some c n p h d = omega arith
+      on-pick (λ (e : Effect). Turn s e → Good s e) _ _ _
+      (λ q. taken-good i _ (w .more) (omega arith) less (w .movable))
+      (λ q. collected-good _ (blockAt s i .pages) (omega arith) room (omega (arith, room, old, eqb-false, leb-false)))
 
 pub working-good : (s : List ℕ) (g : Given s) (budget : ℕ) → isSet (outstandingOf s) ≡ true → 1 ≤ budget → budget ≤ mostBudget → Good s (working s budget .effects)
 working-good s g budget o one l =
-    on-step (λ (x : WorkStep). Good s (x .effects)) s (removalOf s) budget
+    on-step (λ (x : WorkStep). Turn s (x .effects) → Good s (x .effects)) s (removalOf s) budget
     (record {
       onEnd = ending-good s g o;
-      onNowork = λ i w z. nowork-good s g o i w z;
-      onCollect = λ i w n. collects-good s g o i budget one l w n;
+      onNowork = λ i w z. nowork-good s g o i (w .more);
+      onCollect = λ i w n. collects-good s g o i budget l w n;
     })
+    (steps budget one (removes-now s g o .one) refl)
