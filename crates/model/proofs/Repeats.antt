@@ -1,21 +1,19 @@
 -- A pair that stands twice, as specs/Repeats.antt states it.
 -- Assumes nothing.
-use Prim.Native.Nat.{ℕ, zero, suc, _+_, _*_, _%_, _^_, _≤_, _<_}
+use Prim.Native.Nat.{ℕ, _+_, _*_, _%_, _^_, _≤_, _<_}
 use native.Mathlib.Omega.{arith}
 use mathlib.Core.Path.{_≡_, refl, sym, ap, _∙_}
-use mathlib.Core.Bool.{Bool, true, false}
-use mathlib.Core.List.{List, [], _∷_, _++_, append-assoc}
+use mathlib.Core.Bool.{true}
+use mathlib.Core.List.{List, _++_, append-assoc}
 use lib.ListN.{length, getD, set, take, drop}
 use lib.Seq.{getD-set-same, take-at, drop-at}
 use lib.Dec.{eqb}
 use borrow.Author.Tests.{eqb-true}
 use Rattle.wire.specs.BigEndian.{bytesOf, numberAt}
 use Rattle.wire.proofs.Laws.{length-bytes, number-of-bytes}
-use Rattle.model.specs.Choice.{pick, _or_}
+use Rattle.model.specs.Choice.{pick}
 use Rattle.model.specs.declared.Event.{Event}
-use Rattle.model.specs.declared.Removal.{Removal}
-use Rattle.model.specs.declared.Found.{Found}
-use Rattle.model.specs.declared.Found.the-variants.{At, Nowhere}
+use Rattle.model.specs.declared.Found.the-variants.{At}
 use Rattle.model.specs.Layout.{memoryService, replyHeaderBytes, resultBytes, queryBytes, blockAt, outstandingOf, removalOf, mostRecords, stateWords}
 use Rattle.model.specs.Journal.{kindSettled, codeNone}
 use Rattle.model.specs.declared.Request.the-variants.{Configure, Query}
@@ -28,7 +26,7 @@ use Rattle.model.specs.Blocks.{setupState}
 use Rattle.model.specs.Demand3.{Run, Done, newRun, runs, noted, reached, replyOf}
 use Rattle.model.specs.Contracts.{AllMeet, OfEveryList}
 use Rattle.model.specs.Repeats.{Repeat, Repeats, Answered, requestIn, SettledNowork, addressAt, sizeAt, isUnconfigured, settledUnconfigured, resultIn, answerIn}
-use Rattle.model.proofs.Choice.{clash, on-pick}
+use Rattle.model.proofs.Choice.{on-pick}
 use Rattle.model.proofs.Words.{loaded-arrays}
 use Rattle.model.proofs.View.{shape-moves}
 use Rattle.model.proofs.Steps.{Step, adds, nowork, ok, ends, step-of}
@@ -36,7 +34,7 @@ use Rattle.model.proofs.Replies.{behind, record-stands, result-length, 
 use Rattle.model.proofs.Rules.{sound-facts}
 use Rattle.model.proofs.Effects.{Given, shape}
 use Rattle.model.proofs.Configured.{repeat-result}
-use Rattle.model.proofs.Calls.{Taken, taken, on-accepted}
+use Rattle.model.proofs.Calls.{taken, on-accepted}
 use Rattle.model.proofs.Kept.{noted-is}
 use Rattle.model.proofs.WorkKept.{work-allowed}
 use Rattle.model.proofs.Delivers.{reachedBy, reply-is, reached-of, memory-answers}

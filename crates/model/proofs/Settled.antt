@@ -1,8 +1,8 @@
 -- While a removal is outstanding, the block of each settled record is unconfigured: every call keeps it.
 -- Assumes nothing.
-use Prim.Native.Nat.{ℕ, zero, suc, _+_, _≤_, _<_}
+use Prim.Native.Nat.{ℕ, _+_, _≤_, _<_}
 use native.Mathlib.Omega.{arith}
-use mathlib.Core.Path.{_≡_, refl, sym, ap, _∙_}
+use mathlib.Core.Path.{_≡_, refl, _∙_}
 use mathlib.Core.Bool.{Bool, true, false}
 use mathlib.Core.List.{List}
 use lib.Dec.{eqb}
@@ -11,7 +11,7 @@ use Rattle.model.specs.Choice.{_or_, every}
 use Rattle.model.specs.declared.Found.{Found}
 use Rattle.model.specs.declared.Found.the-variants.{At, Nowhere}
 use Rattle.model.specs.declared.Removal.{Removal}
-use Rattle.model.specs.Layout.{blockAt, blocksOf, lastOf, heldOf, outstandingOf, removalOf, withCounts, mostBlocks, lastWord, outstandingWord, blockCountWord, stateWords}
+use Rattle.model.specs.Layout.{blockAt, blocksOf, lastOf, heldOf, outstandingOf, removalOf, withCounts, mostBlocks}
 use Rattle.model.specs.Blocks.{namedBlock}
 use Rattle.model.specs.Memory.{marked}
 use Rattle.model.specs.Messages.{Effect}

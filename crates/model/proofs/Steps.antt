@@ -1,18 +1,16 @@
 -- What a work step does to the blocks and to the removal.
 -- Assumes nothing.
-use Prim.Native.Nat.{ℕ, _+_, _<_}
+use Prim.Native.Nat.{ℕ, _<_}
 use native.Mathlib.Omega.{arith}
-use mathlib.Core.Path.{_≡_, refl, ap, _∙_}
-use mathlib.Core.Bool.{true, false}
+use mathlib.Core.Path.{_≡_, refl, _∙_}
+use mathlib.Core.Bool.{true}
 use mathlib.Core.List.{List, []}
-use borrow.Author.Tests.{eqb-true}
 use Rattle.model.specs.declared.Event.{Event}
-use Rattle.model.specs.declared.Removal.{Removal}
 use Rattle.model.specs.Layout.{blockAt, blocksOf, outstandingOf, isSet, removalOf, withConfigured, withRemoval, withoutRemoval}
 use Rattle.model.specs.Journal.{kindRemovalEnd, collectedEvent, settledEvent}
 use Rattle.model.specs.Memory.{DR-MEM-RES-OK, DR-MEM-RES-NOWORK}
 use Rattle.model.specs.Messages.{Effect, effect}
-use Rattle.model.specs.Work.{WorkStep, addrNow, sizeNow, blockNow, collects, collecting, ending, moving, pagesMoved, settled, working}
+use Rattle.model.specs.Work.{WorkStep, addrNow, sizeNow, collects, collecting, ending, settled, working}
 use Rattle.model.proofs.Choice.{on-pick}
 use Rattle.model.proofs.Words.{loaded-arrays, without-frame, without-outstanding}
 use Rattle.model.proofs.View.{shape-moves, configured-moves}

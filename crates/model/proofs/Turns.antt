@@ -1,17 +1,15 @@
 -- What each effect does to the blocks and to the removal.
 -- Assumes nothing.
-use Prim.Native.Nat.{ℕ, _+_, _≤_, _<_}
+use Prim.Native.Nat.{ℕ, _≤_, _<_}
 use native.Mathlib.Omega.{arith}
-use mathlib.Core.Path.{_≡_, refl, sym, ap, _∙_}
-use mathlib.Core.Bool.{Bool, true, false}
+use mathlib.Core.Path.{_≡_, refl, ap, _∙_}
+use mathlib.Core.Bool.{Bool, true}
 use mathlib.Core.List.{List}
 use lib.ListN.{length}
 use lib.Dec.{ltb}
 use Rattle.model.specs.Choice.{_or_}
-use Rattle.model.specs.declared.Found.{Found}
-use Rattle.model.specs.declared.Found.the-variants.{At, Nowhere}
 use Rattle.model.specs.declared.Removal.{Removal}
-use Rattle.model.specs.Layout.{Block, blockAt, blocksOf, outstandingOf, removalOf, withConfigured, withRemoval, withoutRemoval, withCounts, blockCountWord, lastWord, outstandingWord, stateWords, mostBlocks, mostRecords}
+use Rattle.model.specs.Layout.{Block, blockAt, blocksOf, outstandingOf, removalOf, withConfigured, withRemoval, blockCountWord, lastWord, outstandingWord, stateWords, mostBlocks}
 use Rattle.model.specs.Blocks.{names, namedBlock}
 use Rattle.model.specs.Journal.{kindBegun, kindCancelled, kindRemovalEnd}
 use Rattle.model.specs.Memory.{marked}
@@ -19,8 +17,7 @@ use Rattle.model.specs.Messages.{Effect}
 use Rattle.model.specs.Reading.{flagged}
 use Rattle.model.specs.Work.{working}
 use Rattle.model.proofs.Choice.{first-same}
-use Rattle.model.proofs.Words.{Agree, Arrays, configured-frame, counts-frame, removal-frame, removal-same, removal-back, head-back, without-frame, without-outstanding}
-use Rattle.model.proofs.View.{Shape}
+use Rattle.model.proofs.Words.{Agree, Arrays, removal-frame, removal-same, removal-back, head-back}
 use Rattle.model.proofs.Sounds.{count-same, at-same, block-named, by-flag, count-flag}
 
 -- Blocks as before but for their flags.

@@ -9,7 +9,7 @@ use lib.ListN.{length, take, drop, replicate, length-drop, getD-replicate, take-
 use lib.Seq.{getD-drop, ext-getD}
 use Rattle.wire.specs.BigEndian.{byteAt, numberAt}
 use lib.Dec.{eqb}
-use borrow.Author.Tests.{eq-eqb, ne-eqb, le-leb, leb-true, eqb-true, le-ltb, lt-ltb}
+use borrow.Author.Tests.{ne-eqb, le-leb, leb-true, eqb-true, le-ltb, lt-ltb}
 use Rattle.model.specs.Choice.{pick, _and_, tabulate}
 use Rattle.model.specs.declared.Request.{Request}
 use Rattle.model.specs.declared.Request.the-variants.{Configure, Unconfigure, Query, Status, Cancel, Malformed}

@@ -13,7 +13,7 @@ ghost use Prim.Native.Nat.{_+_, _*_, _≤_, _<_};
 ghost use lib.ListN.{length};
 ghost use Rattle.wire.specs.BigEndian.{numberAt};
 ghost use Rattle.model.specs.Choice.{tabulate};
-ghost use Rattle.model.specs.Memory.{DR-MEM-UNCONF-STATUS, DR-MEM-UNCONF-CANCEL, argumentOf, requestNumber, addrIn, sizeIn, hasRecords, hasNothing, requestOf};
+ghost use Rattle.model.specs.Memory.{DR-MEM-UNCONF-STATUS, DR-MEM-UNCONF-CANCEL, requestNumber, addrIn, sizeIn, hasRecords, hasNothing, requestOf};
 ghost use Rattle.model.specs.Layout.{memoryHeaderBytes, pairBytes, mostRecords};
 
 // The address of record `i`.
