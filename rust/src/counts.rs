@@ -2,13 +2,13 @@
 
 use crate::comparing::Tally;
 use crate::lines::{Call, Line};
-use crate::memory::{self, QUERY_BYTES, RECORDS_START, RESULT_BYTES};
+use crate::memory::{self, PAIR_BYTES, QUERY_BYTES, RECORDS_START, RESULT_BYTES};
 use crate::wire::{self, get32, get64};
 use std::collections::BTreeMap;
 use std::fmt::{self, Display, Formatter};
 
 /// The counts that any long list of calls must reach, as groups of members.
-const MUST_REACH: [(&str, &str); 24] = [
+const MUST_REACH: [(&str, &str); 27] = [
     ("call setup", "accepted, refused"),
     ("call receive", "accepted, refused"),
     ("call offer", "accepted, refused"),
@@ -49,6 +49,18 @@ const MUST_REACH: [(&str, &str); 24] = [
         "result/status",
         "0/1, 0/2, 1/0, 1/1, 1/2, 2/0, 2/1, 2/2, 3/0, 3/1, 3/2, 4/1, 4/2, 5/2",
     ),
+    (
+        "repeat in CONFIGURE",
+        "adjacent, apart, OK then NOWORK, OK then FAILURE, NOWORK then NOWORK, \
+         NOWORK then FAILURE, FAILURE then FAILURE, BLOCKED then BLOCKED",
+    ),
+    (
+        "repeat in UNCONFIGURE",
+        "adjacent, apart, OK then NOWORK, OK then FAILURE, OK then CANCELLED, \
+         NOWORK then NOWORK, NOWORK then FAILURE, NOWORK then CANCELLED, PERM then FAILURE, \
+         FAILURE then FAILURE, CANCELLED then CANCELLED, BLOCKED then BLOCKED",
+    ),
+    ("repeat in QUERY", "adjacent, apart"),
     (
         "QUERY record",
         "none permanent, part permanent, wholly permanent, size 0",
@@ -120,6 +132,12 @@ fn memory_name(memory_type: u32) -> &'static str {
         memory::ERROR => "ERROR",
         _ => "other type",
     }
+}
+
+/// The name of a record's result.
+fn result_name(result: u32) -> &'static str {
+    const NAMES: [&str; 6] = ["OK", "FAILURE", "BLOCKED", "CANCELLED", "NOWORK", "PERM"];
+    NAMES.get(result as usize).unwrap_or(&"other result")
 }
 
 /// Counts by name, and the refusals by number of the program bounds, which
@@ -233,6 +251,7 @@ impl Counts {
                     memory_name(get32(&reply, 16))
                 ));
                 self.results(&reply);
+                self.repeats("UNCONFIGURE", &reply, RESULT_BYTES);
             }
             _ => {}
         }
@@ -269,8 +288,14 @@ impl Counts {
         }
         self.add(format!("memory sent {replied} of receive"));
         match (asked, replied) {
-            ("CONFIGURE" | "UNCONFIGURE", "OK") => self.results(reply),
-            ("QUERY", "OK") => self.query(reply),
+            ("CONFIGURE" | "UNCONFIGURE", "OK") => {
+                self.results(reply);
+                self.repeats(asked, reply, RESULT_BYTES);
+            }
+            ("QUERY", "OK") => {
+                self.query(reply);
+                self.repeats(asked, reply, QUERY_BYTES);
+            }
             ("STATUS", "OK") => self.status(reply),
             _ => {}
         }
@@ -280,6 +305,28 @@ impl Counts {
         for record in reply[RECORDS_START..].chunks_exact(RESULT_BYTES) {
             let (result, status) = (get32(record, 16), get32(record, 20));
             self.add(format!("result/status {result}/{status}"));
+        }
+    }
+
+    /// The records whose pair stands before, adjacent or apart; for results
+    /// also what the first of them got and what the repeat did. The pairs of
+    /// an UNCONFIGURE stand in the reply of work.
+    fn repeats(&mut self, asked: &str, reply: &[u8], size: usize) {
+        let records: Vec<&[u8]> = reply[RECORDS_START..].chunks_exact(size).collect();
+        for (at, record) in records.iter().enumerate() {
+            let same = |before: &&[u8]| before[..PAIR_BYTES] == record[..PAIR_BYTES];
+            let Some(first) = records[..at].iter().copied().find(same) else {
+                continue;
+            };
+            let place = match same(&records[at - 1]) {
+                true => "adjacent",
+                false => "apart",
+            };
+            self.add(format!("repeat in {asked} {place}"));
+            if size == RESULT_BYTES {
+                let [first, then] = [first, record].map(|record| result_name(get32(record, 16)));
+                self.add(format!("repeat in {asked} {first} then {then}"));
+            }
         }
     }
 
@@ -345,16 +392,16 @@ impl Counts {
 impl Display for Counts {
     fn fmt(&self, text: &mut Formatter) -> fmt::Result {
         for (name, count) in &self.listed {
-            writeln!(text, "{name:44} {count:>10}")?;
+            writeln!(text, "{name:48} {count:>10}")?;
         }
-        writeln!(text, "{:44} {:>10} {:>11}", "refusals", "lists", "bounds")?;
+        writeln!(text, "{:48} {:>10} {:>11}", "refusals", "lists", "bounds")?;
         for number in 1..=8 {
             let lists = self.refusals(number);
             let made = match &self.made {
                 Some(made) => made[number].to_string(),
                 None => "-".to_string(),
             };
-            writeln!(text, "refusal {number:<36} {lists:>10} {made:>11}")?;
+            writeln!(text, "refusal {number:<40} {lists:>10} {made:>11}")?;
         }
         Ok(())
     }

@@ -1,8 +1,8 @@
-//! An agent written from 01-scope.md alone: the guest's end of Domain
-//! Services, the memory reconfiguration service and the journal. Beside it:
-//! the host's line format, a generator of random lists of calls, and the
-//! counts of what a list reached. `vio` is the version handshake of ticket 10,
-//! with the same.
+//! An agent written from 01-scope.md and 02-change-requests.md alone: the
+//! guest's end of Domain Services, the memory reconfiguration service and the
+//! journal. Beside it: the host's line format, a generator of random lists of
+//! calls, and the counts of what a list reached. `vio` is the version
+//! handshake of ticket 10, with the same.
 
 pub mod agent;
 pub mod block;

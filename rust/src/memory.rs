@@ -41,8 +41,7 @@ pub enum Code {
 /// One result for each of a request's records, the first `count` of them.
 pub type Codes = [Code; MAX_RECORDS];
 
-/// The pairs of a good request, as they stand in the message: 1 to 16, no
-/// pair twice.
+/// The pairs of a good request, as they stand in the message: 1 to 16.
 #[derive(Clone, Copy)]
 struct Pairs<'a>(&'a [[u8; PAIR_BYTES]]);
 
@@ -51,15 +50,7 @@ impl<'a> Pairs<'a> {
     fn read(argument: u32, bytes: &'a [u8]) -> Option<Pairs<'a>> {
         let (pairs, rest) = bytes.as_chunks();
         let whole = rest.is_empty() && pairs.len() == argument as usize;
-        if !whole || !(1..=MAX_RECORDS).contains(&pairs.len()) {
-            return None;
-        }
-        let word = |pair: &[u8; PAIR_BYTES]| u128::from_ne_bytes(*pair);
-        let twice = |at: usize| {
-            let own = word(&pairs[at]);
-            pairs[..at].iter().any(|before| word(before) == own)
-        };
-        (!(1..pairs.len()).any(twice)).then_some(Pairs(pairs))
+        (whole && (1..=MAX_RECORDS).contains(&pairs.len())).then_some(Pairs(pairs))
     }
 
     fn iter(self) -> impl ExactSizeIterator<Item = Pair> + 'a {

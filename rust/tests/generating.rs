@@ -3,7 +3,8 @@
 use independent::comparing::Tally;
 use independent::counts::Counts;
 use independent::generate::generate;
-use independent::lines::{answer, Call, Line};
+use independent::lines::{answer, Call, Feed, Line};
+use independent::{build, memory, Pair};
 
 /// How many calls a text has that the generator counts.
 fn calls(text: &[u8]) -> usize {
@@ -52,6 +53,69 @@ fn counts_of_lines() {
     for name in ["entry kind 16", "entry code 16/3", "entry end with reply"] {
         assert!(!counts.zeros().contains(&name.to_string()), "{name}");
     }
+}
+
+/// The answers to a list, each counted with its line.
+fn count(list: &str) -> Counts {
+    let (mut counts, mut feed) = (Counts::default(), Feed::default());
+    for line in list.split_inclusive('\n') {
+        let mut answer = Vec::new();
+        feed.piece(line.as_bytes(), &mut answer);
+        counts.line(line.trim_end().as_bytes(), &answer);
+    }
+    counts
+}
+
+fn receive(message: &[u8]) -> String {
+    let digits: String = message.iter().map(|byte| format!("{byte:02x}")).collect();
+    format!("receive 0 {digits}\n")
+}
+
+/// A block of one page, configured, and memory messages on channel 0.
+fn memory_list(messages: &[Vec<u8>]) -> String {
+    let mut list = "setup 0 1 0 0 1\n".to_string();
+    list += &receive(&build::init_req(1, 0));
+    list += "offer 0 0\n";
+    list += &receive(&build::reg_ack(2, 0));
+    for message in messages {
+        list += &receive(&build::data(2, message));
+    }
+    list
+}
+
+const BLOCK: Pair = Pair {
+    addr: 0,
+    size: 8_192,
+};
+const OTHER: Pair = Pair {
+    addr: 8_192,
+    size: 8_192,
+};
+
+#[test]
+fn counts_of_repeats() {
+    let requests = [
+        build::request(memory::QUERY, 1, &[BLOCK, OTHER, BLOCK]),
+        build::request(memory::UNCONFIGURE, 2, &[BLOCK, BLOCK]),
+        build::request(memory::CONFIGURE, 3, &[OTHER, OTHER]),
+    ];
+    let list = memory_list(&requests) + "work 1\nwork 1\nwork 1\n";
+    let zeros = count(&list).zeros();
+    let reached: Vec<String> = Counts::default()
+        .zeros()
+        .into_iter()
+        .filter(|name| name.starts_with("repeat in") && !zeros.contains(name))
+        .collect();
+    assert_eq!(
+        reached,
+        [
+            "repeat in CONFIGURE adjacent",
+            "repeat in CONFIGURE BLOCKED then BLOCKED",
+            "repeat in UNCONFIGURE adjacent",
+            "repeat in UNCONFIGURE OK then NOWORK",
+            "repeat in QUERY apart",
+        ]
+    );
 }
 
 #[test]

@@ -2,7 +2,7 @@
 
 mod common;
 use common::*;
-use independent::{build, memory, Pair};
+use independent::{build, memory};
 
 fn status(bench: &mut Bench) -> Vec<u8> {
     let reply = bench.request(memory::UNCONF_STATUS, &[]);
@@ -127,7 +127,6 @@ fn bad_memory_messages() {
     let long = |message: &[u8]| [message, &[0]].concat();
     let good = build::request(memory::QUERY, 5, &[A]);
     for message in [
-        build::request(memory::QUERY, 5, &[A, B, A]),
         build::memory(memory::CONFIGURE, 2, 5, &[A]),
         build::memory(memory::UNCONFIGURE, 0x0001_0001, 5, &[A]),
         build::memory(memory::UNCONF_STATUS, 1, 5, &[]),
@@ -143,12 +142,6 @@ fn bad_memory_messages() {
     assert_eq!(bench.ask(&[]), error(0));
     assert_eq!(bench.last_entry(), (10, 0, 1, 0, 0));
     assert_eq!(bench.ask(&good[..16]), error(5));
-    // The same address with another size is another pair.
-    let other = Pair { size: 1, ..A };
-    assert_eq!(
-        bench.request(memory::QUERY, &[A, other])[..4],
-        [0, 0, 0, 0x6f]
-    );
 }
 
 #[test]

@@ -1,4 +1,4 @@
--- Demand 3 for every list of calls of the proved functions: each call is lent the state and the journal that the call before it left, and
+-- What holds of every list of calls of the proved functions, demand 3 first: each call is lent the state and the journal that the call before it left, and
 -- what its contract tells holds of what it returned and left. Where a contract in src/ is weakened, this file is refused.
 -- Assumes nothing.
 use contract.Lifetimes.{Lfts}
@@ -13,9 +13,9 @@ use Rattle.model.specs.declared.Started.{Started}
 use Rattle.model.specs.declared.Worked.{Worked}
 use Rattle.model.specs.declared.Drained.{Drained}
 use Rattle.model.specs.Calls.{receive, offer, withdraw, close, work, Call, act, drain, Outcome}
-use Rattle.model.specs.Demand3.{Run, Done, after, runs, newRun, Demand3}
-use Rattle.model.specs.Contracts.{answered, worked, emptied, Meets, answers, works, drains, AllMeet}
-use Rattle.model.proofs.Demand3 as model-proof
+use Rattle.model.specs.Demand3.{Run, Done, after, newRun}
+use Rattle.model.specs.Contracts.{answered, worked, emptied, Meets, answers, works, drains, AllMeet, ListHolds}
+use Rattle.model.proofs.ListsHold as model-proof
 use Rattle.agent.proofs.setup.Kinds as setup-kinds
 use Rattle.agent.proofs.setup.Reads as setup-reads
 use Rattle.agent.proofs.receive.Kinds as receive-kinds
@@ -88,6 +88,6 @@ unfolding AllMeet
 all-meet none = tt
 all-meet (next d c cs) = (meets c, all-meet cs)
 
--- From a setup that is not refused, with a journal of any words.
-pub demand3 : (κs : Lfts 1) (a : Dens κs setup-kinds.ps) (r : Started) (e : AtExit (endedOf 1 setup-kinds.ps setup-kinds.r) κs) → setup-reads.Learnt κs a r e → r .refusal ≡ 0 → (j : List ℕ) (ds : List Done) → CalledAll (newRun (r .state) j) ds → Demand3 (record { blocks = now (a .0) }) (r .state) j ds (runs (newRun (r .state) j) ds)
-demand3 κs a r e p z j ds t = model-proof.demand3 (record { blocks = now (a .0) }) r j ds p z (all-meet t)
+-- From a setup that is not refused, with a journal of any words: demand 3, and what the tickets claim of the same lists.
+pub lists-hold : (κs : Lfts 1) (a : Dens κs setup-kinds.ps) (r : Started) (e : AtExit (endedOf 1 setup-kinds.ps setup-kinds.r) κs) → setup-reads.Learnt κs a r e → r .refusal ≡ 0 → (j : List ℕ) (ds : List Done) → CalledAll (newRun (r .state) j) ds → ListHolds (record { blocks = now (a .0) }) (r .state) j ds
+lists-hold κs a r e p z j ds t = model-proof.lists-hold (record { blocks = now (a .0) }) r j ds p z (all-meet t)

@@ -77,7 +77,9 @@ action-good s g (withdraw c v) r p =
     let b = both _ _ r in
     withdrawing-good s g c v (ltb-true c channelCount (b .0)) (ltb-true v serviceCount (b .1))
 action-good s g (close c) r p = closing-good s g c 0 (ltb-true c channelCount r)
-action-good s g (work budget) r p = working-good s g budget p (leb-true budget mostBudget (both _ _ r .1))
+action-good s g (work budget) r p =
+    let b = both _ _ r in
+    working-good s g budget p (leb-true 1 budget (b .0)) (leb-true budget mostBudget (b .1))
 
 -- an accepted action
 pub record Taken (s j out : List ℕ) (e : Effect) : Type 0 where
@@ -109,3 +111,9 @@ pub on-drain : (P : Outcome → Type 0) (s j run : List ℕ) → (drainRefusal s
 unfolding outcome
 on-drain P s j run f g =
     on-pick P _ _ _ (λ z. f (eqb-true _ 0 z) _ (omega arith) refl) (λ z. g (eqb-false _ 0 z))
+
+-- an outcome that the definitions give for an action and that is no refusal
+pub on-accepted : (P : Outcome → Type 0) (s j out : List ℕ) (a : Action) (r : Outcome) → r ≡ outcome s j (act a out) → r .refusal ≡ 0 → (refusalOf s j out a ≡ 0 → P (accepted s j out (pagesOf s a) (effectOf s a))) → P r
+on-accepted P s j out a r e z f =
+    rw e
+    (on-act (λ o. o .refusal ≡ 0 → P o) s j out a (λ y q. f y) (λ n q. absurd (n (unfold refused in q))) (rw e at z))

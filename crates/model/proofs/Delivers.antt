@@ -27,7 +27,7 @@ use Rattle.model.proofs.Rules.{Sound, live-rules}
 use Rattle.model.proofs.MemoryEffects.{on-memory}
 use Rattle.model.proofs.Calls.{Taken, taken, passed, on-act}
 use Rattle.model.proofs.Kept.{noted-is}
-use Rattle.model.specs.Layout.{channelCount, handleAt, lastOf, memoryService, minorAt, placeCount, placeOf, readyAt, serviceCount, stageAt, stageRegistered, stateWords}
+use Rattle.model.specs.Layout.{channelCount, dataHeaderBytes, handleAt, lastOf, memoryService, minorAt, placeCount, placeOf, readyAt, serviceCount, stageAt, stageRegistered, stateWords}
 
 -- well-formed data is decoded as data under its handle
 pub data-decoded : (m : List ℕ) (handle : ℕ) → WellFormedData m handle → decoded m ≡ Data handle
@@ -42,16 +42,18 @@ data-decoded m handle d =
     )
 
 -- The service that an effect tells of, by its reply and its event.
-unfoldable reachedBy : ℕ → Effect → Found
+unfoldable pub reachedBy : ℕ → Effect → Found
 reachedBy handle e = pick (sameBytes (e .reply) (nack handle DS-INV-HDL)) Nowhere (servedBy (e .event))
 
+-- the reply of an accepted call
+pub reply-is : (s j out : List ℕ) (pages : ℕ) (e : Effect) → replyOf (accepted s j out pages e) ≡ e .reply
+unfolding replyOf accepted written
+reply-is s j out pages e = take-append-seam (e .reply) (drop (length (e .reply)) out)
+
 -- the outcome tells what the effect tells
-reached-of : (s j out : List ℕ) (pages : ℕ) (e : Effect) (t : Taken s j out e) (handle : ℕ) → reached handle (accepted s j out pages e) ≡ reachedBy handle e
+pub reached-of : (s j out : List ℕ) (pages : ℕ) (e : Effect) (t : Taken s j out e) (handle : ℕ) → reached handle (accepted s j out pages e) ≡ reachedBy handle e
 unfolding reached reachedBy
-reached-of s j out pages e t handle = rw (reply-of, noted-is s j out pages e t)
-  where
-    reply-of : replyOf (accepted s j out pages e) ≡ e .reply
-    reply-of = unfold replyOf accepted written in (take-append-seam (e .reply) (drop (length (e .reply)) out))
+reached-of s j out pages e t handle = rw (reply-is s j out pages e, noted-is s j out pages e t)
 
 -- What is registered among the words is what is shown.
 module _ (s : List ℕ) (g : Sound s) where
@@ -175,7 +177,7 @@ memory-of s c h b =
     (record {
       onBlocked = λ request n f. answering-of s c _ request h _ n request _;
       onConfigure = λ request n f o. configure-of (configuredBy s b n) c h request b n;
-      onUnconfigure = λ request n f. beginning-of s c h request b n;
+      onUnconfigure = λ request n f o. beginning-of s c h request b n;
       onQuery = λ request n f. answering-of s c _ request h _ n request _;
       onStatus = λ request. reporting-of s c h request;
       onCancel = λ request. cancelling-of s c h request;
@@ -206,6 +208,11 @@ module _ (s : List ℕ) (c handle : ℕ) where
       go true z = unfold route pick routed in rw z (memory-tells payload ∙ ap At (sym (eqb-true v memoryService z)))
       go false z = unfold route pick routed in rw z (host-tells v)
 
+-- a message that closes the channel reaches no service
+closing-tells : (s : List ℕ) (c by handle : ℕ) → reachedBy handle (closing s c by) ≡ Nowhere
+unfolding closing reachedBy servedBy
+closing-tells s c by handle = on-pick (λ x. x ≡ Nowhere) _ _ _ (λ _. refl) (λ _. unfold pick _and_ in refl)
+
 -- data on any channel
 receiving-tells : (s : List ℕ) (g : Sound s) (c handle : ℕ) → c < channelCount → (m : List ℕ) → decoded m ≡ Data handle → reachedBy handle (receiving s c m) ≡ registeredFor s c handle
 unfolding receiving heard hears
@@ -214,13 +221,23 @@ receiving-tells s g c handle h m d =
     (on-pick (λ (e : Effect). reachedBy handle e ≡ registeredFor s c handle) _ _ _
     (λ r. data-tells s c handle _ (registeredFor s c handle))
     (λ r.
-    closed
+    closing-tells s c 1 handle
     ∙ sym (first-nowhere serviceCount (registeredAs s c handle) (λ v l. none-closed s g c handle v h l r))))
+
+-- data that reached the memory service is answered by it
+pub memory-answers : (s : List ℕ) (c handle : ℕ) (m : List ℕ) → WellFormedData m handle → reachedBy handle (effectOf s (receive c m)) ≡ At memoryService → effectOf s (receive c m) ≡ answeredMemory s c handle (drop dataHeaderBytes m)
+unfolding effectOf receiving heard hears
+memory-answers s c handle m d =
+    rw (data-decoded m handle d)
+    (on-pick (λ (e : Effect). reachedBy handle e ≡ At memoryService → e ≡ answeredMemory s c handle (drop dataHeaderBytes m)) _ _ _
+    (λ r e. found (registeredFor s c handle) (sym (data-tells s c handle _ (registeredFor s c handle)) ∙ e))
+    (λ r e. absurd (nowhere (sym (closing-tells s c 1 handle) ∙ e))))
   where
-    closed : reachedBy handle (closing s c 1) ≡ Nowhere
-    closed =
-        unfold closing reachedBy servedBy in
-        (on-pick (λ x. x ≡ Nowhere) _ _ _ (λ _. refl) (λ _. unfold pick _and_ in refl))
+    found : (x : Found) → x ≡ At memoryService → dataFor s c handle (drop dataHeaderBytes m) x ≡ answeredMemory s c handle (drop dataHeaderBytes m)
+    found x e = unfold dataFor route routed pick in rw e
+
+    nowhere : Nowhere ≡ At memoryService → ⊥
+    nowhere e = let z : _≡_ {A = ℕ} 0 1 = cc in omega arith
 
 -- the data clause of an accepted receive
 channel-within : (s j out : List ℕ) (c : ℕ) (m : List ℕ) → refusalOf s j out (receive c m) ≡ 0 → c < channelCount

@@ -8,38 +8,23 @@ use mathlib.Core.List.{List, [], _∷_, _++_}
 use Rattle.model.specs.Choice.{pick}
 use Rattle.model.specs.declared.Started.{Started}
 use Rattle.model.specs.Blocks.{Lists, acceptedLists, setupState}
-use Rattle.model.specs.Calls.{Call, Outcome, outcome, started}
+use Rattle.model.specs.Calls.{Outcome, started}
 use Rattle.model.specs.Reading.{View, reading, setupView}
-use Rattle.model.specs.Demand3.{Run, Done, after, newRun, doing, entries, runs}
-use Rattle.model.specs.Contracts.{Meets, answers, works, drains, AllMeet, Demand3Holds}
+use Rattle.model.specs.Demand3.{Run, Done, after, newRun, entries, runs, Demand3}
+use Rattle.model.specs.Contracts.{Meets, AllMeet, SetupPost, OfEveryList}
 use Rattle.model.proofs.Rules.{sound-facts}
 use Rattle.model.proofs.Setup.{starts}
-use Rattle.model.proofs.Lists.{Kept, kept-doing}
+use Rattle.model.proofs.Lists.{Kept, meets-outcome, on-list}
 use Rattle.model.proofs.Delivers.{delivers}
 use Rattle.model.specs.Journal.{entriesAt}
 
--- a call that meets its contract gives what the definitions give
-pub meets-outcome : {s j : List ℕ} {call : Call} {r : Outcome} → Meets s j call r → r ≡ outcome s j call
-meets-outcome (answers e) = e
-meets-outcome (works e) = e
-meets-outcome (drains e) = e
-
--- a list of such calls keeps what the definitions keep, up to each of its places
-kept-meeting : (b : View) (u : Run) (ds : List Done) → AllMeet u ds → Kept b u → Kept b (runs u ds)
-unfolding AllMeet runs
-kept-meeting b u [] m k = k
-kept-meeting b u (d ∷ ds) m k = kept-meeting b (after u d) ds (m .1) (rw (same d (m .0)) (kept-doing b u (d .call) k))
-  where
-    same : (d : Done) → Meets (u .state) (u .journal) (d .call) (d .gave) → after u d ≡ after u (doing u (d .call))
-    same d e = ap (λ (r : Outcome). after u (record { call = d .call; gave = r })) (meets-outcome e)
-
 -- what a part of such a list meets
-meets-before : (u : Run) (before later : List Done) → AllMeet u (before ++ later) → AllMeet u before
+pub meets-before : (u : Run) (before later : List Done) → AllMeet u (before ++ later) → AllMeet u before
 unfolding AllMeet
 meets-before u [] later m = tt
 meets-before u (d ∷ before) later m = (m .0, meets-before (after u d) before later (m .1))
 
-meets-here : (u : Run) (before : List Done) (d : Done) (later : List Done) → AllMeet u (before ++ d ∷ later) → Meets (runs u before .state) (runs u before .journal) (d .call) (d .gave)
+pub meets-here : (u : Run) (before : List Done) (d : Done) (later : List Done) → AllMeet u (before ++ d ∷ later) → Meets (runs u before .state) (runs u before .journal) (d .call) (d .gave)
 unfolding AllMeet runs
 meets-here u [] d later m = m .0
 meets-here u (x ∷ before) d later m = meets-here (after u x) before d later (m .1)
@@ -71,11 +56,26 @@ kept-start l j a =
       listed = record { total = refl; numbered = λ i h. omega arith; reads = sym (s .view) };
     }
 
-pub demand3 : Demand3Holds
-demand3 l r j ds e z m =
+-- a setup that is not refused
+pub record First (l : Lists) (s j : List ℕ) : Type 0 where
+  pub accepted : acceptedLists l ≡ true
+  pub state : s ≡ setupState l
+  pub kept : Kept (setupView l) (newRun s j)
+
+pub at-first : (l : Lists) (r : Started) (j : List ℕ) → SetupPost l r → r .refusal ≡ 0 → First l (r .state) j
+at-first l r j e z =
     let a = started-accepted l (rw e at z) in
     let state : r .state ≡ setupState l = ap (λ (x : Started). x .state) e ∙ started-state l a in
-    let first : Kept (setupView l) (newRun (r .state) j) = rw state (kept-start l j a) in
+    record { accepted = a; state = state; kept = rw state (kept-start l j a) }
+
+-- up to each place of a list
+pub kept-meeting : (b : View) (u : Run) (ds : List Done) → AllMeet u ds → Kept b u → Kept b (runs u ds)
+kept-meeting b u ds m k =
+    on-list b (λ u. Unit {0}) (λ u k q. record { onAct = λ a out z. tt; onDrain = λ n h. tt; onRefusal = tt }) u ds m k tt .0
+
+pub demand3 : OfEveryList (λ l s j ds. Demand3 l s j ds (runs (newRun s j) ds))
+demand3 l r j ds e z m =
+    let first = at-first l r j e z .kept in
     let k = kept-meeting (setupView l) (newRun (r .state) j) ds m first in
     record {
       total = k .listed .total;

@@ -1,5 +1,5 @@
 -- What is shown of every effect: its entry fits, reading the entry does to what is shown what the call did to the words, the reply fits the
--- output, and the state stays sound.
+-- output, the state stays sound, and the blocks and the removal take a turn that Turns.antt names.
 -- Assumes nothing.
 use Prim.Native.Nat.{ℕ, _+_, _/_, _≤_, _<_}
 use native.Mathlib.Omega.{arith}
@@ -11,16 +11,17 @@ use lib.Dec.{eqb, ltb}
 use borrow.Author.Tests.{ltb-true, ltb-false, eqb-true, le-leb}
 use Rattle.model.specs.Choice.{pick, _or_}
 use Rattle.model.specs.declared.Event.{Event}
-use Rattle.model.specs.Layout.{placeOf, channelCount, handleAt, highestMinor, highestNumber, lastOf, outputBytes, placeCount, readyAt, serviceCount, stageAt, stageIdle, stageOffered, stageRegistered, stateWords, withChannel, withService}
+use Rattle.model.specs.Layout.{placeOf, blockCountWord, lastWord, outstandingWord, channelCount, handleAt, highestMinor, highestNumber, lastOf, outputBytes, placeCount, readyAt, serviceCount, stageAt, stageIdle, stageOffered, stageRegistered, stateWords, withChannel, withService}
 use Rattle.model.specs.State.{serviceSound, ourHandle}
 use Rattle.model.specs.Journal.{fieldsOf, closedEvent, notedEvent, offerRefusedEvent, offeredEvent, readyEvent, registeredEvent, serviceEndedEvent, versionRefusedEvent}
 use Rattle.model.specs.Messages.{Effect, effect, acknowledged, closing, initiated, liveAs, liveFor, notAcknowledged, noting, offeredAs, offeredFor, offering, unregistered, withIdle, withRegistered, withdrawing, initAck}
 use Rattle.model.specs.Reading.{View, read, stageOf, seeChannel, seeService, viewOf}
 use Rattle.model.proofs.Choice.{on-pick, on-first, both}
 use Rattle.model.proofs.View.{Shape, Moves, stays, turns, service-moves, channel-moves}
-use Rattle.model.proofs.Words.{service-frame, channel-frame}
+use Rattle.model.proofs.Words.{Agree, service-frame, channel-frame}
 use Rattle.model.proofs.Rules.{Base, Removes, Sound, Live, live-rules, live-last, service-idle, base-later, removes-later}
 use Rattle.model.proofs.Sounds.{base-service, base-channel, removes-same}
+use Rattle.model.proofs.Turns.{Turn, leaves, aside, same-blocks, same-removal}
 use Rattle.model.proofs.Events.{Fits, ready-fits, closed-fits, version-fits, offered-fits, registered-fits, refused-fits, ended-fits, noted-fits}
 use Rattle.model.proofs.Replies.{short-empty, initAck-short, initNack-short, regReq-short, unreg-short, unregAck-short, unregNack-short}
 
@@ -40,6 +41,7 @@ pub record Good (s : List ℕ) (e : Effect) : Type 0 where
   pub fits : length (e .reply) ≤ outputBytes
   pub base : Base (e .state) (lastOf s + 1)
   pub removal : Removes (e .state) (lastOf s + 1)
+  pub turn : Turn s e
 
 module _ (s : List ℕ) (g : Given s) where
   -- the state itself, for the next number
@@ -56,75 +58,78 @@ module _ (s : List ℕ) (g : Given s) where
   removes-now = removes-later s (lastOf s) (lastOf s + 1) (omega arith) (g .facts .removal)
 
   -- Nothing changed.
-  pub unchanged : (e : Event) (reply : List ℕ) → Fits (lastOf s + 1) e → ((v : View) → readBy s e v ≡ v) → length reply ≤ outputBytes → Good s (effect e s reply)
-  unchanged e reply f r short = record {
+  pub unchanged : (e : Event) (reply : List ℕ) → Fits (lastOf s + 1) e → ((v : View) → readBy s e v ≡ v) → length reply ≤ outputBytes → aside (e .kind) ≡ true → Good s (effect e s reply)
+  unchanged e reply f r short a = record {
     entry = f;
     moves = turns (readBy s e) (stays s) (sym (r (viewOf s)));
     fits = short;
     base = base-now;
     removal = removes-now;
+    turn = leaves (same-blocks s s (g .facts .base .few) (λ j lo hi. refl)) (same-removal s s (λ j lo hi. refl)) a;
   }
 
   -- One service changed: it is sound by itself, and where it is live no other live service has its handle.
-  pub service-changed : (e : Event) (reply : List ℕ) (k stage handle minor : ℕ) → k < placeCount → Fits (lastOf s + 1) e → ((v : View) → readBy s e v ≡ seeService k (stageOf stage handle minor) v) → length reply ≤ outputBytes → serviceSound stage handle minor (readyAt s (k / serviceCount)) (lastOf s + 1) ≡ true → ((j : ℕ) → j < placeCount → (j ≡ k → ⊥) → (stageAt s j ≡ stageIdle → ⊥) → (stage ≡ stageIdle → ⊥) → handleAt s j ≡ handle → ⊥) → Good s (effect e (withService s k stage handle minor) reply)
-  service-changed e reply k stage handle minor b f r short ok fresh =
+  pub service-changed : (e : Event) (reply : List ℕ) (k stage handle minor : ℕ) → k < placeCount → Fits (lastOf s + 1) e → ((v : View) → readBy s e v ≡ seeService k (stageOf stage handle minor) v) → length reply ≤ outputBytes → serviceSound stage handle minor (readyAt s (k / serviceCount)) (lastOf s + 1) ≡ true → ((j : ℕ) → j < placeCount → (j ≡ k → ⊥) → (stageAt s j ≡ stageIdle → ⊥) → (stage ≡ stageIdle → ⊥) → handleAt s j ≡ handle → ⊥) → aside (e .kind) ≡ true → Good s (effect e (withService s k stage handle minor) reply)
+  service-changed e reply k stage handle minor b f r short ok fresh a =
       let w = service-frame s k stage handle minor in
+      let low : Agree s (withService s k stage handle minor) blockCountWord lastWord = λ j lo hi. w j (λ p q. omega arith) in
+      let high : Agree s (withService s k stage handle minor) outstandingWord stateWords = λ j lo hi. w j (λ p q. omega arith) in
       record {
         entry = f;
         moves = turns (readBy s e) (service-moves s shape k stage handle minor b) (sym (r (viewOf s)));
         fits = short;
         base = base-service s (lastOf s + 1) k stage handle minor (g .size) base-now b ok fresh;
         removal =
-            removes-same s (withService s k stage handle minor) (lastOf s + 1) (g .facts .base .few)
-            (λ j lo hi. w j (λ p q. omega arith))
-            (λ j lo hi. w j (λ p q. omega arith))
-            removes-now;
+            removes-same s (withService s k stage handle minor) (lastOf s + 1) (g .facts .base .few) low high removes-now;
+        turn = leaves (same-blocks s (withService s k stage handle minor) (g .facts .base .few) low) (same-removal s (withService s k stage handle minor) high) a;
       }
 
   -- A channel closed or made ready, its services idle.
-  pub channel-changed : (e : Event) (reply : List ℕ) (c ready : ℕ) → c < channelCount → ready ≤ 1 → Fits (lastOf s + 1) e → ((v : View) → readBy s e v ≡ seeChannel c (eqb ready 1) v) → length reply ≤ outputBytes → Good s (effect e (withChannel s c ready) reply)
-  channel-changed e reply c ready b small f r short =
+  pub channel-changed : (e : Event) (reply : List ℕ) (c ready : ℕ) → c < channelCount → ready ≤ 1 → Fits (lastOf s + 1) e → ((v : View) → readBy s e v ≡ seeChannel c (eqb ready 1) v) → length reply ≤ outputBytes → aside (e .kind) ≡ true → Good s (effect e (withChannel s c ready) reply)
+  channel-changed e reply c ready b small f r short a =
       let w = channel-frame s c ready in
+      let low : Agree s (withChannel s c ready) blockCountWord lastWord = λ j lo hi. w j (λ q. omega arith) (λ p q. omega arith) in
+      let high : Agree s (withChannel s c ready) outstandingWord stateWords = λ j lo hi. w j (λ q. omega arith) (λ p q. omega arith) in
       record {
         entry = f;
         moves = turns (readBy s e) (channel-moves s shape c ready b) (sym (r (viewOf s)));
         fits = short;
         base = base-channel s (lastOf s + 1) c ready (g .size) base-now b small;
         removal =
-            removes-same s (withChannel s c ready) (lastOf s + 1) (g .facts .base .few)
-            (λ j lo hi. w j (λ q. omega arith) (λ p q. omega arith))
-            (λ j lo hi. w j (λ q. omega arith) (λ p q. omega arith))
-            removes-now;
+            removes-same s (withChannel s c ready) (lastOf s + 1) (g .facts .base .few) low high removes-now;
+        turn = leaves (same-blocks s (withChannel s c ready) (g .facts .base .few) low) (same-removal s (withChannel s c ready) high) a;
       }
 
   -- a service becomes idle
-  idled : (e : Event) (reply : List ℕ) (c v : ℕ) → c < channelCount → v < serviceCount → Fits (lastOf s + 1) e → ((x : View) → readBy s e x ≡ seeService (placeOf c v) (stageOf stageIdle 0 0) x) → length reply ≤ outputBytes → Good s (effect e (withIdle s c v) reply)
-  idled e reply c v h l f r short =
+  idled : (e : Event) (reply : List ℕ) (c v : ℕ) → c < channelCount → v < serviceCount → Fits (lastOf s + 1) e → ((x : View) → readBy s e x ≡ seeService (placeOf c v) (stageOf stageIdle 0 0) x) → length reply ≤ outputBytes → aside (e .kind) ≡ true → Good s (effect e (withIdle s c v) reply)
+  idled e reply c v h l f r short a =
       service-changed e reply (placeOf c v) stageIdle 0 0 (omega arith) f r short
       (service-idle stageIdle 0 0 _ (lastOf s + 1) refl)
       (λ j b n p q z. q refl)
+      a
 
   -- DS messages and host calls.
   pub closing-good : (c by : ℕ) → c < channelCount → Good s (closing s c by)
-  unfolding closing read pick fieldsOf
+  unfolding closing read pick fieldsOf aside _or_
   closing-good c by h =
-      channel-changed (closedEvent c by) [] c 0 h (omega arith) (closed-fits _ c next-number h by) (λ v. refl) short-empty
+      channel-changed (closedEvent c by) [] c 0 h (omega arith) (closed-fits _ c next-number h by) (λ v. refl) short-empty refl
 
   pub initiated-good : (c major : ℕ) → c < channelCount → major ≤ highestMinor → Good s (initiated s c major)
   unfolding initiated
   initiated-good c major h m =
       on-pick (Good s) _ _ _
       (λ e.
-      unfold read pick fieldsOf in
-      (channel-changed (readyEvent c) (initAck 0) c 1 h (omega arith) (ready-fits _ c next-number h) (λ v. refl) (initAck-short 0)))
+      unfold read pick fieldsOf aside _or_ in
+      (channel-changed (readyEvent c) (initAck 0) c 1 h (omega arith) (ready-fits _ c next-number h) (λ v. refl) (initAck-short 0) refl))
       (λ e.
       channel-changed (versionRefusedEvent c major) _ c 0 h (omega arith) (version-fits _ c next-number h major m)
       (λ v. unfold read pick fieldsOf in refl)
-      (initNack-short _))
+      (initNack-short _)
+      (unfold aside _or_ in refl))
 
   pub noting-good : (c type : ℕ) (reply : List ℕ) → c < channelCount → length reply ≤ outputBytes → Good s (noting s c type reply)
-  unfolding noting read pick fieldsOf
-  noting-good c type reply h f = unchanged (notedEvent c type) reply (noted-fits _ c next-number h type) (λ v. refl) f
+  unfolding noting read pick fieldsOf aside _or_
+  noting-good c type reply h f = unchanged (notedEvent c type) reply (noted-fits _ c next-number h type) (λ v. refl) f refl
 
   -- 5: the handle is that of the offer
   registered-good : (c v minor handle : ℕ) → c < channelCount → v < serviceCount → minor ≤ highestMinor → stageAt s (placeOf c v) ≡ stageOffered → handleAt s (placeOf c v) ≡ handle → Good s (effect (registeredEvent c v minor handle) (withRegistered s c v handle minor) [])
@@ -141,6 +146,7 @@ module _ (s : List ℕ) (g : Given s) where
       (record { stages = omega arith; isReady = u .isReady; ours = rw q at (u .ours) })
       ∙ (unfold _or_ in (le-leb minor highestMinor m)))
       (λ j b n p z e. own j b n p (e ∙ sym q))
+      (unfold aside _or_ in refl)
     where
       own : (j : ℕ) → j < placeCount → (j ≡ placeOf c v → ⊥) → (stageAt s j ≡ stageIdle → ⊥) → handleAt s j ≡ handleAt s (placeOf c v) → ⊥
       own j b n live p = go (ltb j (placeOf c v)) refl
@@ -162,15 +168,15 @@ module _ (s : List ℕ) (g : Given s) where
   not-acknowledged-good c handle h =
       on-first (λ x. Good s (notAcknowledged s c x)) serviceCount (offeredAs s c handle)
       (λ v r.
-      unfold notAcknowledged read pick fieldsOf stageOf in
-      (idled (offerRefusedEvent c v) [] c v h (r .below) (refused-fits _ c next-number h v (r .below)) (λ x. refl) short-empty))
+      unfold notAcknowledged read pick fieldsOf stageOf aside _or_ in
+      (idled (offerRefusedEvent c v) [] c v h (r .below) (refused-fits _ c next-number h v (r .below)) (λ x. refl) short-empty refl))
       (λ _. unfold notAcknowledged in (noting-good c _ [] h short-empty))
 
   -- 7, of UNREG and of withdraw
   ended-good : (c v : ℕ) (reply : List ℕ) → c < channelCount → v < serviceCount → length reply ≤ outputBytes → Good s (effect (serviceEndedEvent c v) (withIdle s c v) reply)
-  unfolding read pick fieldsOf stageOf
+  unfolding read pick fieldsOf stageOf aside _or_
   ended-good c v reply h l f =
-      idled (serviceEndedEvent c v) reply c v h l (ended-fits _ c next-number h v l) (λ x. refl) f
+      idled (serviceEndedEvent c v) reply c v h l (ended-fits _ c next-number h v l) (λ x. refl) f refl
 
   pub unregistered-good : (c handle : ℕ) → c < channelCount → Good s (unregistered s c handle (liveFor s c handle))
   unregistered-good c handle h =
@@ -194,6 +200,7 @@ module _ (s : List ℕ) (g : Given s) where
       (λ j b n live z q.
       let u = live-rules _ _ _ _ _ live (g .facts .base .services j b) in
       omega (arith, u .ours .most))
+      (unfold aside _or_ in refl)
 
   pub withdrawing-good : (c v : ℕ) → c < channelCount → v < serviceCount → Good s (withdrawing s c v)
   unfolding withdrawing

@@ -15,9 +15,10 @@ use Rattle.model.specs.Choice.{pick}
 use Rattle.model.specs.declared.Event.{Event}
 use Rattle.model.specs.State.{sound}
 use Rattle.model.specs.Messages.{Effect}
-use Rattle.model.specs.Calls.{Call, act, drain, Action, accepted, drained, effectOf, pagesOf, refusalOf, refused}
+use Rattle.model.specs.Calls.{Call, act, drain, Action, Outcome, accepted, drained, effectOf, outcome, pagesOf, refusalOf, refused}
 use Rattle.model.specs.Reading.{View, read, readEntry, reading, viewOf}
-use Rattle.model.specs.Demand3.{Run, after, doing, drainedBy, entries, history, noEntry, numberedBy, runs}
+use Rattle.model.specs.Demand3.{Run, Done, after, doing, drainedBy, entries, noEntry, numberedBy, runs}
+use Rattle.model.specs.Contracts.{Meets, answers, works, drains, AllMeet}
 use Rattle.model.proofs.Words.{counts-length, last-counts, held-counts}
 use Rattle.model.proofs.View.{shape-moves, counts-view}
 use Rattle.model.proofs.Rules.{sound-facts}
@@ -76,7 +77,7 @@ listed-more b es n v w e l f q =
         ∙ l .numbered i g
 
 -- an accepted call that is no drain
-grown : Run → Effect → Run
+unfoldable pub grown : Run → Effect → Run
 grown u e = record {
   state = withCounts (e .state) (lastOf (u .state) + 1) (heldOf (u .state) + 1);
   journal = stored (u .journal) (lastOf (u .state) + 1) (entryOf (lastOf (u .state) + 1) (e .event));
@@ -84,7 +85,7 @@ grown u e = record {
   number = u .number + 1;
 }
 
-entries-grown : (b : View) (u : Run) (e : Effect) (out : List ℕ) → Kept b u → Taken (u .state) (u .journal) out e → entries (grown u e) ≡ entries u ++ entryOf (lastOf (u .state) + 1) (e .event) ∷ []
+pub entries-grown : (b : View) (u : Run) (e : Effect) (out : List ℕ) → Kept b u → Taken (u .state) (u .journal) out e → entries (grown u e) ≡ entries u ++ entryOf (lastOf (u .state) + 1) (e .event) ∷ []
 unfolding entries grown
 entries-grown b u e out k t =
     let l : ℕ = lastOf (u .state) + 1 in
@@ -124,22 +125,8 @@ kept-grown b u e out k t =
           (rw (← k .last) (sym (g .moves .view))));
     }
 
-kept-act : (b : View) (u : Run) (a : Action) (out : List ℕ) → Kept b u → Kept b (after u (doing u (act a out)))
-unfolding after drainedBy numberedBy
-kept-act b u a out k =
-    on-act (λ r. Kept b (after u (record { call = act a out; gave = r }))) (u .state) (u .journal) out a yes-case no-case
-  where
-    yes-case : refusalOf (u .state) (u .journal) out a ≡ 0 → Kept b (after u (record { call = act a out; gave = accepted (u .state) (u .journal) out (pagesOf (u .state) a) (effectOf (u .state) a) }))
-    yes-case z =
-        unfold after drainedBy numberedBy accepted pick in
-        rw append-nil
-        (unfold grown in (kept-grown b u (effectOf (u .state) a) out k (taken (u .state) (u .journal) out a (k .size) z)))
-
-    no-case : (refusalOf (u .state) (u .journal) out a ≡ 0 → ⊥) → Kept b (after u (record { call = act a out; gave = refused (u .state) (u .journal) out (refusalOf (u .state) (u .journal) out a) }))
-    no-case n = unfold after drainedBy numberedBy refused pick in rw (append-nil, ne-eqb _ 0 n, add-zero) k
-
 -- Drain: some of the oldest held entries have moved to those drained.
-shifted : Run → ℕ → Run
+unfoldable pub shifted : Run → ℕ → Run
 shifted u n = record {
   state = withCounts (u .state) (lastOf (u .state)) (heldOf (u .state) - n);
   journal = u .journal;
@@ -147,7 +134,7 @@ shifted u n = record {
   number = u .number;
 }
 
-entries-shifted : (b : View) (u : Run) (n : ℕ) → n ≤ heldOf (u .state) → Kept b u → entries (shifted u n) ≡ entries u
+pub entries-shifted : (b : View) (u : Run) (n : ℕ) → n ≤ heldOf (u .state) → Kept b u → entries (shifted u n) ≡ entries u
 unfolding entries shifted
 entries-shifted b u n h k =
     let l : length (u .drained ++ entriesAt (u .journal) (length (u .drained) + 1) n) ≡ length (u .drained) + n =
@@ -177,28 +164,67 @@ kept-shifted b u n h k =
           (k .listed);
     }
 
-kept-drained : (b : View) (u : Run) (run : List ℕ) (n : ℕ) → n ≤ heldOf (u .state) → Kept b u → Kept b (after u (record { call = drain run; gave = drained (u .state) (u .journal) run n }))
-unfolding after drained drainedBy numberedBy pick shifted
-kept-drained b u run n h k =
-    let a : lastOf (u .state) - heldOf (u .state) ≡ length (u .drained) = omega (arith, k .held, k .last) in
-    rw (entries-in, a, add-zero) (kept-shifted b u n h k)
+-- What holds of a run holds after a call, where it holds after each thing that a call does to the run: an entry more, entries drained, or nothing.
+pub record AfterCall (Q : Run → Type 0) (u : Run) : Type 0 where
+  pub onAct : (a : Action) (out : List ℕ) → refusalOf (u .state) (u .journal) out a ≡ 0 → Q (grown u (effectOf (u .state) a))
+  pub onDrain : (n : ℕ) → n ≤ heldOf (u .state) → Q (shifted u n)
+  pub onRefusal : Q u
 
-kept-refused : (b : View) (u : Run) (run : List ℕ) (n : ℕ) → (n ≡ 0 → ⊥) → Kept b u → Kept b (after u (record { call = drain run; gave = refused (u .state) (u .journal) run n }))
-unfolding after refused drainedBy numberedBy pick
-kept-refused b u run n z k = rw (ne-eqb n 0 z, add-zero, append-nil) k
+module _ (b : View) (Q : Run → Type 0) (u : Run) (k : Kept b u) (c : AfterCall Q u) where
+  act-accepted : (a : Action) (out : List ℕ) → refusalOf (u .state) (u .journal) out a ≡ 0 → Q (after u (record { call = act a out; gave = accepted (u .state) (u .journal) out (pagesOf (u .state) a) (effectOf (u .state) a) }))
+  act-accepted a out z =
+      unfold after drainedBy numberedBy accepted pick in
+      rw append-nil (unfold grown in (c .onAct a out z))
 
-kept-drain : (b : View) (u : Run) (run : List ℕ) → Kept b u → Kept b (after u (doing u (drain run)))
-kept-drain b u run k =
-    on-drain (λ r. Kept b (after u (record { call = drain run; gave = r }))) (u .state) (u .journal) run
-    (λ z n few e. kept-drained b u run n few k)
-    (λ z. kept-refused b u run _ z k)
+  act-refused : (a : Action) (out : List ℕ) → (refusalOf (u .state) (u .journal) out a ≡ 0 → ⊥) → Q (after u (record { call = act a out; gave = refused (u .state) (u .journal) out (refusalOf (u .state) (u .journal) out a) }))
+  act-refused a out n = unfold after drainedBy numberedBy refused pick in rw (append-nil, ne-eqb _ 0 n, add-zero) (c .onRefusal)
 
--- a call, with what the definitions give for it
+  drain-accepted : (run : List ℕ) (n : ℕ) → n ≤ heldOf (u .state) → Q (after u (record { call = drain run; gave = drained (u .state) (u .journal) run n }))
+  unfolding after drained drainedBy numberedBy pick shifted
+  drain-accepted run n h =
+      let a : lastOf (u .state) - heldOf (u .state) ≡ length (u .drained) = omega (arith, k .held, k .last) in
+      rw (entries-in, a, add-zero) (c .onDrain n h)
+
+  drain-refused : (run : List ℕ) (n : ℕ) → (n ≡ 0 → ⊥) → Q (after u (record { call = drain run; gave = refused (u .state) (u .journal) run n }))
+  unfolding after refused drainedBy numberedBy pick
+  drain-refused run n z = rw (ne-eqb n 0 z, add-zero, append-nil) (c .onRefusal)
+
+  -- a call, with what the definitions give for it
+  pub on-doing : (call : Call) → Q (after u (doing u call))
+  on-doing (act a out) =
+      on-act (λ r. Q (after u (record { call = act a out; gave = r }))) (u .state) (u .journal) out a
+      (λ z. act-accepted a out z)
+      (λ n. act-refused a out n)
+  on-doing (drain run) =
+      on-drain (λ r. Q (after u (record { call = drain run; gave = r }))) (u .state) (u .journal) run
+      (λ z n few e. drain-accepted run n few)
+      (λ z. drain-refused run _ z)
+
 pub kept-doing : (b : View) (u : Run) (call : Call) → Kept b u → Kept b (after u (doing u call))
-kept-doing b u (act a out) k = kept-act b u a out k
-kept-doing b u (drain run) k = kept-drain b u run k
+kept-doing b u call k =
+    on-doing b (Kept b) u k
+    (record {
+      onAct = λ a out z. kept-grown b u (effectOf (u .state) a) out k (taken (u .state) (u .journal) out a (k .size) z);
+      onDrain = λ n h. kept-shifted b u n h k;
+      onRefusal = k;
+    })
+    call
 
-pub kept-runs : (b : View) (u : Run) (calls : List Call) → Kept b u → Kept b (runs u (history u calls))
-unfolding runs history
-kept-runs b u [] k = k
-kept-runs b u (call ∷ calls) k = kept-runs b (after u (doing u call)) calls (kept-doing b u call k)
+-- a call that meets its contract gives what the definitions give
+pub meets-outcome : {s j : List ℕ} {call : Call} {r : Outcome} → Meets s j call r → r ≡ outcome s j call
+meets-outcome (answers e) = e
+meets-outcome (works e) = e
+meets-outcome (drains e) = e
+
+pub meets-doing : (u : Run) (d : Done) → Meets (u .state) (u .journal) (d .call) (d .gave) → after u d ≡ after u (doing u (d .call))
+meets-doing u d e = ap (λ (r : Outcome). after u (record { call = d .call; gave = r })) (meets-outcome e)
+
+-- What holds of every list of calls that meet their contracts, by induction: it holds at first, and each call keeps it.
+module _ (b : View) (Q : Run → Type 0) (step : (u : Run) → Kept b u → Q u → AfterCall Q u) where
+  pub on-list : (u : Run) (ds : List Done) → AllMeet u ds → Kept b u → Q u → Kept b (runs u ds) × Q (runs u ds)
+  unfolding AllMeet runs
+  on-list u [] m k q = (k, q)
+  on-list u (d ∷ ds) m k q =
+      on-list (after u d) ds (m .1)
+      (rw (meets-doing u d (m .0)) (kept-doing b u (d .call) k))
+      (rw (meets-doing u d (m .0)) (on-doing b Q u k (step u k q) (d .call)))

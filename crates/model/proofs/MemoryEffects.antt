@@ -8,14 +8,14 @@ use mathlib.Core.List.{List, []}
 use lib.ListN.{length, getD, length-replicate}
 use lib.Dec.{ltb, eqb}
 use borrow.Author.Tests.{leb-true, eqb-true, eqb-false, lt-ltb, not-false}
-use Rattle.model.specs.Choice.{pick, every}
+use Rattle.model.specs.Choice.{pick, _or_, every}
 use Rattle.model.specs.declared.Event.{Event}
 use Rattle.model.specs.declared.Found.{Found}
 use Rattle.model.specs.declared.Found.the-variants.{At, Nowhere}
 use Rattle.model.specs.declared.Removal.{Removal}
 use Rattle.model.specs.declared.Request.{Request}
 use Rattle.model.specs.declared.Request.the-variants.{Configure, Unconfigure, Query, Status, Cancel, Malformed}
-use Rattle.model.specs.Layout.{blocksOf, blockAt, lastOf, outstandingOf, isSet, removalOf, withRemoval, channelCount, mostBlocks, mostRecords, outputBytes, outstandingWord}
+use Rattle.model.specs.Layout.{blocksOf, blockAt, lastOf, outstandingOf, isSet, removalOf, withConfigured, withRemoval, channelCount, mostBlocks, mostRecords, outputBytes, outstandingWord}
 use Rattle.model.specs.State.{removalRoom, collectedSound, resultsSound}
 use Rattle.model.specs.Journal.{fieldsOf, answeredEvent, configuredEvent, cancelledEvent, begunEvent, codeBlocked, codeError, codeNone}
 use Rattle.model.specs.Messages.{Effect, effect}
@@ -27,6 +27,7 @@ use Rattle.model.proofs.View.{Moves, shape-moves, stays, then, turns, c
 use Rattle.model.proofs.Rules.{Base, Ours, RemovalFacts}
 use Rattle.model.proofs.Events.{Fits, codeEnd, answered-fits, configured-fits, begun-fits, cancelled-fits}
 use Rattle.model.proofs.Sounds.{named-less, base-configured, base-removal, removes-made, removes-none}
+use Rattle.model.proofs.Turns.{SameSizes, SameBlocks, NewRemoval, Turn, configures, begins, marks, aside, same-sizes, sizes-then, flag-sizes, removal-blocks, new-removal}
 use Rattle.model.proofs.Mask.{configured-none, configured-more, bit-none}
 use Rattle.model.proofs.Replies.{short-empty, memory-length, results-short, queries-short, result-length, query-length, status-length}
 use Rattle.model.proofs.Effects.{Given, Good, readBy, shape, next-number, base-now, removes-now, unchanged}
@@ -59,6 +60,7 @@ pub record Configures (s : List ℕ) (p : Progress) : Type 0 where
   pub moves : Moves s (p .state) (λ v. seeBlocks (configuredIn (p .mask) (v .blocks)) v)
   pub base : Base (p .state) (lastOf s + 1)
   pub removal : outstandingOf (p .state) ≡ outstandingOf s
+  pub sizes : SameSizes s (p .state)
 
 module _ (s : List ℕ) (g : Given s) where
   configured-first : Configures s (record { state = s; mask = 0; failed = false; results = [] })
@@ -67,6 +69,7 @@ module _ (s : List ℕ) (g : Given s) where
     moves = turns _ (stays s) (rw (configured-none (viewOf s .blocks)));
     base = base-now s g;
     removal = refl;
+    sizes = same-sizes s;
   }
 
   configured-another : (p : Progress) (k : ℕ) → Configures s p → k < blocksOf (p .state) → blockAt (p .state) k .configured ≡ 0 → Configures s (oneConfigured p k)
@@ -87,6 +90,7 @@ module _ (s : List ℕ) (g : Given s) where
             (rw (more, here));
         base = base-configured (p .state) k 1 (w .size) (w .few) h (lastOf s + 1) (omega arith) (λ q. refl) (r .base);
         removal = configured-frame (p .state) k 1 outstandingWord (λ a b. omega arith) ∙ r .removal;
+        sizes = sizes-then s (p .state) (withConfigured (p .state) k 1) (r .sizes) (flag-sizes (p .state) k 1 (w .size) (w .few) h);
       }
 
   configured-one : (p : Progress) (addr size : ℕ) → Configures s p → Configures s (configureOne p addr size)
@@ -95,10 +99,10 @@ module _ (s : List ℕ) (g : Given s) where
       on-pick (Configures s) _ _ _ (λ e. failed) (λ e. go (namedBlock (p .state) addr size) refl)
     where
       failed : Configures s (oneFailed p)
-      failed = unfold oneFailed in record { moves = r .moves; base = r .base; removal = r .removal }
+      failed = unfold oneFailed in record { moves = r .moves; base = r .base; removal = r .removal; sizes = r .sizes }
 
       unchanged-one : Configures s (oneUnchanged p)
-      unchanged-one = unfold oneUnchanged in record { moves = r .moves; base = r .base; removal = r .removal }
+      unchanged-one = unfold oneUnchanged in record { moves = r .moves; base = r .base; removal = r .removal; sizes = r .sizes }
 
       go : (x : Found) → namedBlock (p .state) addr size ≡ x → Configures s (configureAt p x)
       go (At i) e =
@@ -108,50 +112,52 @@ module _ (s : List ℕ) (g : Given s) where
           (λ z. unchanged-one))
       go Nowhere e = unfold configureAt in failed
 
-  configured-all : (b : List ℕ) (n : ℕ) → Configures s (configuredBy s b n)
+  pub configured-all : (b : List ℕ) (n : ℕ) → Configures s (configuredBy s b n)
   unfolding configuredBy
   configured-all b zero = configured-first
   configured-all b (suc n) = configured-one (configuredBy s b n) (addrIn b n) (sizeIn b n) (configured-all b n)
 
   -- Blocks configured while none is outstanding.
-  blocks-changed : (e : Event) (reply : List ℕ) (p : Progress) → Fits (lastOf s + 1) e → readBy s e (viewOf s) ≡ seeBlocks (configuredIn (p .mask) (viewOf s .blocks)) (viewOf s) → length reply ≤ outputBytes → outstandingOf s ≡ 0 → Configures s p → Good s (effect e (p .state) reply)
-  blocks-changed e reply p f q short o r = record {
+  blocks-changed : (e : Event) (reply : List ℕ) (p : Progress) → Fits (lastOf s + 1) e → readBy s e (viewOf s) ≡ seeBlocks (configuredIn (p .mask) (viewOf s .blocks)) (viewOf s) → length reply ≤ outputBytes → outstandingOf s ≡ 0 → Configures s p → aside (e .kind) ≡ true → Good s (effect e (p .state) reply)
+  blocks-changed e reply p f q short o r a = record {
     entry = f;
     moves = turns (readBy s e) (r .moves) (sym q);
     fits = short;
     base = r .base;
     removal = removes-none (p .state) (lastOf s + 1) (r .removal ∙ o);
+    turn = configures (r .sizes) o (r .removal ∙ o) a;
   }
 
   -- 10 and 11, of a CONFIGURE
   configure-good : (c handle request : ℕ) (b : List ℕ) (n : ℕ) (p : Progress) → c < channelCount → n ≤ mostRecords → outstandingOf s ≡ 0 → Configures s p → Good s (answeringConfigure p c handle request b n)
-  unfolding answeringConfigure answering fieldsOf read pick seeBlocks
+  unfolding answeringConfigure answering fieldsOf read pick seeBlocks aside _or_
   configure-good c handle request b n p h few o r =
       on-pick (Good s) _ _ _
       (λ e.
       let z = eqb-true (p .mask) 0 e in
       blocks-changed (answeredEvent c codeNone request) _ p (answered-fits _ c (next-number s g) h codeNone request (omega arith))
       (rw (z, configured-none (viewOf s .blocks)))
-      short o r)
-      (λ e. blocks-changed (configuredEvent c (p .mask)) _ p (configured-fits _ c (next-number s g) h (p .mask)) refl short o r)
+      short o r refl)
+      (λ e. blocks-changed (configuredEvent c (p .mask)) _ p (configured-fits _ c (next-number s g) h (p .mask)) refl short o r refl)
     where
       short : length (configureReply p handle request b n) ≤ outputBytes
       short = unfold configureReply in results-short handle _ request n few _ (λ i. result-length (p .state) (addrIn b i) (sizeIn b i) _)
 
   -- The removal changed, and nothing else.
-  pub removal-changed : (e : Event) (reply : List ℕ) (m : Removal) → Arrays m → Fits (lastOf s + 1) e → readBy s e (viewOf s) ≡ seeRemoval (removing (m .cancelled) (m .position) (m .collected)) (viewOf s) → length reply ≤ outputBytes → RemovalFacts s (lastOf s + 1) m → Good s (effect e (withRemoval s m) reply)
-  removal-changed e reply m a f q short facts = record {
+  pub removal-changed : (e : Event) (reply : List ℕ) (m : Removal) → Arrays m → Fits (lastOf s + 1) e → readBy s e (viewOf s) ≡ seeRemoval (removing (m .cancelled) (m .position) (m .collected)) (viewOf s) → length reply ≤ outputBytes → RemovalFacts s (lastOf s + 1) m → (SameBlocks s (withRemoval s m) → NewRemoval (withRemoval s m) m → Turn s (effect e (withRemoval s m) reply)) → Good s (effect e (withRemoval s m) reply)
+  removal-changed e reply m a f q short facts turn = record {
     entry = f;
     moves = turns (readBy s e) (removal-moves s (shape s g) m a) (sym q);
     fits = short;
     base = base-removal s (lastOf s + 1) m (base-now s g);
     removal = removes-made s (lastOf s + 1) m (g .size) (g .facts .base .few) a facts;
+    turn = turn (removal-blocks s m (g .facts .base .few)) (new-removal s m (g .size) a);
   }
 
   -- 12
-  begun-good : (c handle request : ℕ) (b : List ℕ) (n : ℕ) → c < channelCount → Ours 0 (lastOf s + 1) handle → 1 ≤ n → n ≤ mostRecords → Good s (beginning s c handle request b n)
+  begun-good : (c handle request : ℕ) (b : List ℕ) (n : ℕ) → c < channelCount → Ours 0 (lastOf s + 1) handle → 1 ≤ n → n ≤ mostRecords → outstandingOf s ≡ 0 → Good s (beginning s c handle request b n)
   unfolding beginning fieldsOf read pick newRemoval every resultsSound
-  begun-good c handle request b n h u some few =
+  begun-good c handle request b n h u some few o =
       removal-changed (begunEvent c n request) [] (newRemoval c handle request b n)
       (record {
         addresses = tabulate-length (λ (i : ℕ). addrIn b i) mostRecords;
@@ -170,6 +176,7 @@ module _ (s : List ℕ) (g : Given s) where
         room = collected-none (removalRoom s (newRemoval c handle request b n));
         results = refl;
       })
+      (λ blocks removal. begins (newRemoval c handle request b n) blocks removal refl o refl)
 
   -- what is shown of an outstanding removal
   pub removing-now : isSet (outstandingOf s) ≡ true → viewOf s .removal ≡ removing (removalOf s .cancelled) (removalOf s .position) (removalOf s .collected)
@@ -196,12 +203,13 @@ module _ (s : List ℕ) (g : Given s) where
         room = collected-none (removalRoom s (marked (removalOf s)));
         results = m .results;
       })
+      (λ blocks removal. marks blocks removal (removes-now s g o .one) refl)
 
   -- The requests.
   answering-good : (c code request : ℕ) (reply : List ℕ) → c < channelCount → code < codeEnd → length reply ≤ outputBytes → Good s (answering s c code request reply)
-  unfolding answering fieldsOf read pick
+  unfolding answering fieldsOf read pick aside _or_
   answering-good c code request reply h k f =
-      unchanged s g (answeredEvent c code request) reply (answered-fits _ c (next-number s g) h code request k) (λ v. refl) f
+      unchanged s g (answeredEvent c code request) reply (answered-fits _ c (next-number s g) h code request k) (λ v. refl) f refl
 
   blocked-good : (c handle request : ℕ) (b : List ℕ) (n : ℕ) → c < channelCount → n ≤ mostRecords → Good s (blocked s c handle request b n)
   unfolding blocked
@@ -270,7 +278,7 @@ right-form b =
 pub record OnMemory (P : Effect → Type 0) (s : List ℕ) (c handle : ℕ) (b : List ℕ) : Type 0 where
   pub onBlocked : (request n : ℕ) → Records n → P (blocked s c handle request b n)
   pub onConfigure : (request n : ℕ) → Records n → outstandingOf s ≡ 0 → P (answeringConfigure (configuredBy s b n) c handle request b n)
-  pub onUnconfigure : (request n : ℕ) → Records n → P (beginning s c handle request b n)
+  pub onUnconfigure : (request n : ℕ) → Records n → outstandingOf s ≡ 0 → P (beginning s c handle request b n)
   pub onQuery : (request n : ℕ) → Records n → P (querying s c handle request b n)
   pub onStatus : (request : ℕ) → P (reporting s c handle request)
   pub onCancel : (request : ℕ) → P (cancelling s c handle request)
@@ -281,7 +289,7 @@ unfolding requested
 on-requested P s c handle request b (Configure n) f o =
     on-pick P _ _ _ (λ e. o .onBlocked request n f) (λ e. o .onConfigure request n f (eqb-true _ 0 (not-false _ e)))
 on-requested P s c handle request b (Unconfigure n) f o =
-    on-pick P _ _ _ (λ e. o .onBlocked request n f) (λ e. o .onUnconfigure request n f)
+    on-pick P _ _ _ (λ e. o .onBlocked request n f) (λ e. o .onUnconfigure request n f (eqb-true _ 0 (not-false _ e)))
 on-requested P s c handle request b (Query n) f o = o .onQuery request n f
 on-requested P s c handle request b Status f o = o .onStatus request
 on-requested P s c handle request b Cancel f o = o .onCancel request
@@ -297,7 +305,7 @@ memory-good s g c handle b h u =
     (record {
       onBlocked = λ request n f. blocked-good s g c handle request b n h (f .1);
       onConfigure = λ request n f o. configure-good s g c handle request b n (configuredBy s b n) h (f .1) o (configured-all s g b n);
-      onUnconfigure = λ request n f. begun-good s g c handle request b n h u (f .0) (f .1);
+      onUnconfigure = λ request n f o. begun-good s g c handle request b n h u (f .0) (f .1) o;
       onQuery = λ request n f. querying-good s g c handle request b n h (f .1);
       onStatus = λ request. reporting-good s g c handle request h;
       onCancel = λ request. cancelling-good s g c handle request h;

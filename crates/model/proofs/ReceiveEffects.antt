@@ -11,7 +11,7 @@ use Rattle.model.specs.declared.Message.the-variants.{InitReq, RegReq, R
 use Rattle.model.specs.Layout.{placeOf, channelCount, highestMinor, lastOf, placeCount, serviceCount, stageRegistered, stageAt}
 use Rattle.model.specs.Messages.{decoded, decodedByType, registeredAs, registeredFor, route, DS-INV-HDL, effect, nack}
 use Rattle.model.specs.Calls.{dataFor, heard, receiving, routed}
-use Rattle.model.specs.Choice.{pick}
+use Rattle.model.specs.Choice.{pick, _or_}
 use Rattle.model.specs.declared.Route.{Route}
 use Rattle.model.specs.declared.Route.the-variants.{Memory, Host}
 use Rattle.model.proofs.Choice.{on-pick, on-first, both}
@@ -19,6 +19,7 @@ use Rattle.model.proofs.Rules.{Ours, live-rules}
 use Rattle.model.proofs.Events.{delivered-fits, data-refused-fits}
 use Rattle.model.proofs.Replies.{short-empty, regNack-short, nack-short}
 use Rattle.model.proofs.Effects.{Given, Good, next-number, base-now, unchanged, closing-good, initiated-good, noting-good, acknowledged-good, not-acknowledged-good, unregistered-good}
+use Rattle.model.proofs.Turns.{aside}
 use Rattle.model.proofs.MemoryEffects.{memory-good}
 use Rattle.model.specs.Journal.{deliveredEvent, fieldsOf, dataRefusedEvent}
 use Rattle.model.specs.Reading.{read}
@@ -53,14 +54,14 @@ versions m =
 
 module _ (s : List ℕ) (g : Given s) where
   delivered-good : (c v : ℕ) → c < channelCount → v < serviceCount → Good s (effect (deliveredEvent c v) s [])
-  unfolding read pick fieldsOf
+  unfolding read pick fieldsOf aside _or_
   delivered-good c v h l =
-      unchanged s g (deliveredEvent c v) [] (delivered-fits _ c (next-number s g) h v l) (λ x. refl) short-empty
+      unchanged s g (deliveredEvent c v) [] (delivered-fits _ c (next-number s g) h v l) (λ x. refl) short-empty refl
 
   data-refused-good : (c handle : ℕ) → c < channelCount → Good s (effect (dataRefusedEvent c handle) s (nack handle DS-INV-HDL))
-  unfolding read pick fieldsOf
+  unfolding read pick fieldsOf aside _or_
   data-refused-good c handle h =
-      unchanged s g (dataRefusedEvent c handle) _ (data-refused-fits _ c (next-number s g) h handle) (λ v. refl) (nack-short handle _)
+      unchanged s g (dataRefusedEvent c handle) _ (data-refused-fits _ c (next-number s g) h handle) (λ v. refl) (nack-short handle _) refl
 
   routed-good : (c handle : ℕ) (payload : List ℕ) (v : ℕ) (x : Route) → c < channelCount → v < serviceCount → Ours 0 (lastOf s + 1) handle → Good s (routed s c handle payload v x)
   unfolding routed

@@ -1,15 +1,18 @@
--- How long each reply is: none is above 672 bytes.
+-- How long each reply is: none is above 672 bytes; and where a memory reply's records stand.
 -- Assumes nothing.
-use Prim.Native.Nat.{ℕ, zero, suc, _+_, _≤_}
+use Prim.Native.Nat.{ℕ, zero, suc, _+_, _*_, _≤_, _<_}
+use native.Mathlib.Nat.{eq-or-lt-of-le, le-of-suc-le-suc, not-suc-le-zero}
 use native.Mathlib.Omega.{arith}
-use mathlib.Core.Path.{_≡_}
-use mathlib.Core.List.{List, []}
+use mathlib.Core.Path.{_≡_, _∙_}
+use mathlib.Core.List.{List, [], _++_, append-assoc, append-nil}
+use mathlib.Core.Logic.{⊎-elim}
 use lib.ListN.{length, length-append}
 use lib.Dec.{eqb}
-use Rattle.wire.proofs.Laws.{length-bytes}
+use Rattle.wire.specs.BigEndian.{bytesOf, numberAt}
+use Rattle.wire.proofs.Laws.{length-bytes, number-after}
 use Rattle.model.specs.Choice.{joined}
 use Rattle.model.specs.declared.Removal.{Removal}
-use Rattle.model.specs.Messages.{services, serviceOf, dsMessage, initAck, initNack, regReq, regNack, unreg, unregAck, unregNack, dsData, nack}
+use Rattle.model.specs.Messages.{DS-DATA, services, serviceOf, dsMessage, initAck, initNack, regReq, regNack, unreg, unregAck, unregNack, dsData, nack}
 use Rattle.model.specs.Memory.{memoryReply, resultRecord, queryRecord, permanentRange, statusRecord}
 use Rattle.model.proofs.Choice.{on-pick, joined-length}
 use Rattle.model.specs.Layout.{dsHeaderBytes, mostRecords, outputBytes, queryBytes, replyHeaderBytes, resultBytes, statusBytes}
@@ -96,3 +99,56 @@ status-length m =
 
 pub short-empty : length {A = ℕ} [] ≤ outputBytes
 short-empty = omega arith
+
+-- A list of lists, split at the i-th.
+pub record Split (f : ℕ → List ℕ) (n i : ℕ) : Type 0 where
+  pub rest : List ℕ
+  pub parts : joined f n ≡ joined f i ++ (f i ++ rest)
+
+pub split-at : (f : ℕ → List ℕ) (n i : ℕ) → i < n → Split f n i
+unfolding joined
+split-at f zero i h = absurd (not-suc-le-zero h)
+split-at f (suc n) i h =
+    ⊎-elim
+    (λ (q : i ≡ n). record { rest = []; parts = rw (q, append-nil) })
+    (λ (l : i < n). longer (split-at f n i l))
+    (eq-or-lt-of-le (le-of-suc-le-suc h))
+  where
+    longer : Split f n i → Split f (suc n) i
+    longer r = record { rest = r .rest ++ f n; parts = rw (r .parts) (simp append-assoc) }
+
+-- a number behind the k elements of a
+pub behind : (a l : List ℕ) (k at n : ℕ) → length a ≡ k → numberAt (a ++ l) (k + at) n ≡ numberAt l at n
+behind a l k at n e = rw (← e) (number-after a l at n)
+
+-- x stands in l from `at` on
+pub record Stands (l x : List ℕ) (at : ℕ) : Type 0 where
+  pub before : List ℕ
+  pub after : List ℕ
+  pub parts : l ≡ before ++ (x ++ after)
+  pub long : length before ≡ at
+
+-- a memory reply: its headers, then its records
+memory-records : (handle type argument request : ℕ) (records : List ℕ) → Stands (memoryReply handle type argument request records) records replyHeaderBytes
+unfolding memoryReply dsData dsMessage
+memory-records handle type argument request records = record {
+  before =
+      bytesOf 4 DS-DATA
+      ++ bytesOf 4 (length (bytesOf 8 handle ++ bytesOf 4 type ++ bytesOf 4 argument ++ bytesOf 8 request ++ records))
+      ++ bytesOf 8 handle ++ bytesOf 4 type ++ bytesOf 4 argument ++ bytesOf 8 request;
+  after = [];
+  parts = rw (append-nil) (simp append-assoc);
+  long = simp (length-append, length-bytes) (omega arith);
+}
+
+-- record i of those of k bytes each
+pub record-stands : (handle type argument request n i k : ℕ) (f : ℕ → List ℕ) → ((i : ℕ) → length (f i) ≡ k) → i < n → Stands (memoryReply handle type argument request (joined f n)) (f i) (replyHeaderBytes + i * k)
+record-stands handle type argument request n i k f each h =
+    let m = memory-records handle type argument request (joined f n) in
+    let s = split-at f n i h in
+    record {
+      before = m .before ++ joined f i;
+      after = s .rest ++ m .after;
+      parts = m .parts ∙ rw (s .parts) (simp append-assoc);
+      long = length-append (m .before) (joined f i) ∙ rw (m .long, joined-length f k i each);
+    }

@@ -9,7 +9,7 @@ use lib.ListN.{length, getD, set, replicate, length-set, getD-replicate}
 use lib.Seq.{getD-set-same, getD-set-other, length-sets}
 use borrow.Author.Tests.{leb-true, eqb-true}
 use Rattle.model.specs.Choice.{pick, every, tabulate, _and_}
-use Rattle.model.specs.Layout.{blocksOf, blockIn, blockAt, lastOf, heldOf, blockCountWord, blockWords, configuredPlace, firstBlockWord, firstPlace, firstStageWord, heldWord, lastWord, mostBlocks, outstandingWord, pagesPlace, permanentPlace, serviceWords, stateWords}
+use Rattle.model.specs.Layout.{outstandingOf, blocksOf, blockIn, blockAt, lastOf, heldOf, blockCountWord, blockWords, configuredPlace, firstBlockWord, firstPlace, firstStageWord, heldWord, lastWord, mostBlocks, outstandingWord, pagesPlace, permanentPlace, serviceWords, stateWords}
 use Rattle.model.specs.Blocks.{blockKeeps, endBefore, blocksKeep, setupState, Lists, acceptedBlocks, acceptedLists, noLists}
 use Rattle.model.specs.State.{sound}
 use Rattle.model.specs.Reading.{stageOf, channelsOf, servicesOf, blocksShown, removalShown, viewOf, setupView}
@@ -133,6 +133,7 @@ pub record Starts (l : Lists) : Type 0 where
   pub last : lastOf (setupState l) ≡ 0
   pub held : heldOf (setupState l) ≡ 0
   pub view : viewOf (setupState l) ≡ setupView l
+  pub outstanding : outstandingOf (setupState l) ≡ 0
 
 pub starts : (l : Lists) → acceptedLists l ≡ true → Starts l
 unfolding acceptedLists
@@ -144,6 +145,7 @@ starts l e =
       last = high l f lastWord (omega arith);
       held = high l f heldWord (omega arith);
       view = setup-view l f;
+      outstanding = high l f outstandingWord (omega arith);
     }
 
 pub empty-accepted : acceptedLists noLists ≡ true

@@ -28,10 +28,10 @@ named-less s addr size i e = first-facts (blocksOf s) _ i e .below
 
 -- Blocks as before.
 module _ (s t : List ℕ) (few : blocksOf s ≤ mostBlocks) (a : Agree s t blockCountWord lastWord) where
-  count-same : blocksOf t ≡ blocksOf s
+  pub count-same : blocksOf t ≡ blocksOf s
   count-same = a blockCountWord (omega arith) (omega arith)
 
-  at-same : (i : ℕ) → i < mostBlocks → blockAt t i ≡ blockAt s i
+  pub at-same : (i : ℕ) → i < mostBlocks → blockAt t i ≡ blockAt s i
   at-same i h = block-same s t i h (λ j lo hi. a j (omega arith) hi)
 
   end-same : (i : ℕ) → i < mostBlocks → endBefore t firstBlockWord i ≡ endBefore s firstBlockWord i
@@ -39,7 +39,7 @@ module _ (s t : List ℕ) (few : blocksOf s ≤ mostBlocks) (a : Agree s t block
   end-same zero h = refl
   end-same (suc i) h = rw (at-same i (omega arith))
 
-  block-named : (addr size : ℕ) → namedBlock t addr size ≡ namedBlock s addr size
+  pub block-named : (addr size : ℕ) → namedBlock t addr size ≡ namedBlock s addr size
   unfolding namedBlock
   block-named addr size =
       rw count-same
@@ -268,8 +268,7 @@ module _ (s : List ℕ) (i flag : ℕ) (size : length s ≡ stateWords) (few : b
   raised : List ℕ
   raised = withConfigured s i flag
 
-  by-flag : (P : Block → Type 0) (k : ℕ) → (k ≡ i → P (flagged flag (blockAt s i))) → ((k ≡ i → ⊥) → P (blockAt s k)) → P (blockAt raised k)
-  unfolding raised
+  pub by-flag : (P : Block → Type 0) (k : ℕ) → (k ≡ i → P (flagged flag (blockAt s i))) → ((k ≡ i → ⊥) → P (blockAt s k)) → P (blockAt (withConfigured s i flag) k)
   by-flag P k f g = go (eqb k i) refl
     where
       go : (x : Bool) → eqb k i ≡ x → P (blockAt (withConfigured s i flag) k)
@@ -277,7 +276,7 @@ module _ (s : List ℕ) (i flag : ℕ) (size : length s ≡ stateWords) (few : b
       go false z = let n = eqb-false k i z in rw (flag-other s k i flag n) (g n)
 
   end-flag : (k : ℕ) → endBefore raised firstBlockWord k ≡ endBefore s firstBlockWord k
-  unfolding endBefore
+  unfolding endBefore raised
   end-flag zero = refl
   end-flag (suc k) =
       by-flag (λ x. endOf x ≡ endOf (blockAt s k)) k (λ q. unfold flagged in rw q) (λ n. refl)

@@ -1,6 +1,6 @@
 -- The work step: a splitter over what it does, and its effects, as Effects.antt shows of the others.
 -- Assumes nothing.
-use Prim.Native.Nat.{ℕ, zero, suc, _+_, _-_, _≤_, _<_, min}
+use Prim.Native.Nat.{ℕ, zero, suc, _+_, _-_, _≤_, _<_}
 use native.Mathlib.Omega.{arith}
 use mathlib.Core.Path.{_≡_, refl, ap, _∙_}
 use mathlib.Core.Bool.{Bool, true, false}
@@ -16,13 +16,14 @@ use Rattle.model.specs.declared.Removal.{Removal}
 use Rattle.model.specs.Layout.{blocksOf, Block, blockAt, lastOf, outstandingOf, isSet, removalOf, withConfigured, withRemoval, withoutRemoval, mostBlocks, mostBudget, mostRecords, outputBytes}
 use Rattle.model.specs.State.{removalRoom, collectedSound, resultsSound, resultSound, roomAt}
 use Rattle.model.specs.Journal.{fieldsOf, collectedEvent, settledEvent, removalEndEvent}
-use Rattle.model.specs.Messages.{effect}
+use Rattle.model.specs.Messages.{Effect, effect}
 use Rattle.model.specs.Work.{addrNow, sizeNow, blockNow, endCode, lateReply, ending, settled, collecting, pagesMoved, collects, worksOn, stepOf, working, WorkStep, failingCode, moving, worksAt}
 use Rattle.model.specs.Reading.{read, seeBlocks, seeRemoval, flagged, unconfiguredIn, steppedRemoval, addedPages, blocksShown, viewOf}
 use Rattle.model.proofs.Choice.{on-pick, or-false, every-at, every-make}
 use Rattle.model.proofs.Words.{Arrays, loaded-arrays, without-outstanding}
 use Rattle.model.proofs.View.{shape-moves, then, turns, configured-moves, removal-moves, without-moves, noBlock}
 use Rattle.model.proofs.Rules.{RemovalFacts, block-rules}
+use Rattle.model.proofs.Turns.{Turn, steps}
 use Rattle.model.proofs.Sounds.{named-less, base-configured, base-removal, base-without, removes-made, removes-none}
 use Rattle.model.proofs.Mask.{unconfigured-set}
 use Rattle.model.proofs.Replies.{short-empty, results-short, result-length}
@@ -72,6 +73,7 @@ less-collected n room e h = ltb-true n room (rw (ne-eqb room 0 (λ q. omega arit
 
 -- A step that works on block i: the removal goes on, and the record at the position names that block, which has no permanent page.
 pub record Working (s : List ℕ) (m : Removal) (i : ℕ) : Type 0 where
+  pub goesOn : m .cancelled ≡ false
   pub more : m .position < m .count
   pub named : blockNow s m ≡ At i
   pub movable : blockAt s i .permanent ≡ 0
@@ -79,30 +81,30 @@ pub record Working (s : List ℕ) (m : Removal) (i : ℕ) : Type 0 where
 -- What holds of each thing that a step does holds of the step.
 pub record OnStep (P : WorkStep → Type 0) (s : List ℕ) (m : Removal) (budget : ℕ) : Type 0 where
   pub onEnd : P (moving 0 (ending s m))
-  pub onNowork : (i : ℕ) → Working s m i → P (moving 0 (effect (settledEvent (m .channel) (m .position) DR-MEM-RES-NOWORK 0 i) (withRemoval s (settled m DR-MEM-RES-NOWORK)) []))
+  pub onNowork : (i : ℕ) → Working s m i → blockAt s i .configured ≡ 0 → P (moving 0 (effect (settledEvent (m .channel) (m .position) DR-MEM-RES-NOWORK 0 i) (withRemoval s (settled m DR-MEM-RES-NOWORK)) []))
   pub onCollect : (i : ℕ) → Working s m i → (blockAt s i .configured ≡ 0 → ⊥) → P (moving (pagesMoved s m i budget) (collects s m i (pagesMoved s m i budget)))
 
 pub on-step : (P : WorkStep → Type 0) (s : List ℕ) (m : Removal) (budget : ℕ) → OnStep P s m budget → P (stepOf s m budget)
 unfolding stepOf
 on-step P s m budget o =
     on-pick P _ _ _ (λ e. o .onEnd)
-    (λ e. go (leb-false _ _ (or-false _ _ e .1)) (blockNow s m) refl)
+    (λ e. go (or-false _ _ e .0) (leb-false _ _ (or-false _ _ e .1)) (blockNow s m) refl)
   where
-    go : m .position < m .count → (x : Found) → blockNow s m ≡ x → P (worksAt s m budget x)
-    go h (At i) q =
+    go : m .cancelled ≡ false → m .position < m .count → (x : Found) → blockNow s m ≡ x → P (worksAt s m budget x)
+    go f h (At i) q =
         unfold worksAt worksOn in
         (on-pick P _ _ _
         (λ z.
-        let w : Working s m i = record { more = h; named = q; movable = eqb-true _ 0 z } in
-        on-pick P _ _ _ (λ y. o .onNowork i w) (λ y. o .onCollect i w (eqb-false _ 0 y)))
+        let w : Working s m i = record { goesOn = f; more = h; named = q; movable = eqb-true _ 0 z } in
+        on-pick P _ _ _ (λ y. o .onNowork i w (eqb-true _ 0 y)) (λ y. o .onCollect i w (eqb-false _ 0 y)))
         (λ z. o .onEnd))
-    go h Nowhere q = unfold worksAt in (o .onEnd)
+    go f h Nowhere q = unfold worksAt in (o .onEnd)
 
 module _ (s : List ℕ) (g : Given s) (o : isSet (outstandingOf s) ≡ true) where
   facts : RemovalFacts s (lastOf s + 1) (removalOf s)
   facts = removes-now s g o .facts
 
-  settled-arrays : (r : ℕ) → Arrays (settled (removalOf s) r)
+  pub settled-arrays : (r : ℕ) → Arrays (settled (removalOf s) r)
   unfolding settled
   settled-arrays r =
       let a = loaded-arrays s in
@@ -128,9 +130,9 @@ module _ (s : List ℕ) (g : Given s) (o : isSet (outstandingOf s) ≡ true) whe
   place-few h = omega (arith, facts .few)
 
   -- 14
-  collected-good : (n room : ℕ) → n ≤ mostBudget → removalRoom s (removalOf s) ≡ room → removalOf s .collected + n < room → Good s (effect (collectedEvent (removalOf s .channel) n) (withRemoval s (collecting (removalOf s) n)) [])
+  collected-good : (n room : ℕ) → n ≤ mostBudget → removalRoom s (removalOf s) ≡ room → removalOf s .collected + n < room → Turn s (effect (collectedEvent (removalOf s .channel) n) (withRemoval s (collecting (removalOf s) n)) []) → Good s (effect (collectedEvent (removalOf s .channel) n) (withRemoval s (collecting (removalOf s) n)) [])
   unfolding fieldsOf read pick collecting addedPages removalRoom resultsSound
-  collected-good n room l e h =
+  collected-good n room l e h turn =
       let a = loaded-arrays s in
       let f = facts in
       let same : removalRoom s (collecting (removalOf s) n) ≡ room = e in
@@ -148,11 +150,12 @@ module _ (s : List ℕ) (g : Given s) (o : isSet (outstandingOf s) ≡ true) whe
         room = rw same (collected-less (removalOf s .collected + n) room h);
         results = f .results;
       })
+      (λ blocks removal. turn)
 
   -- 15, NOWORK
-  nowork-good : (block : ℕ) → removalOf s .position < removalOf s .count → Good s (effect (settledEvent (removalOf s .channel) (removalOf s .position) DR-MEM-RES-NOWORK 0 block) (withRemoval s (settled (removalOf s) DR-MEM-RES-NOWORK)) [])
+  nowork-good : (block : ℕ) → removalOf s .position < removalOf s .count → Turn s (effect (settledEvent (removalOf s .channel) (removalOf s .position) DR-MEM-RES-NOWORK 0 block) (withRemoval s (settled (removalOf s) DR-MEM-RES-NOWORK)) []) → Good s (effect (settledEvent (removalOf s .channel) (removalOf s .position) DR-MEM-RES-NOWORK 0 block) (withRemoval s (settled (removalOf s) DR-MEM-RES-NOWORK)) [])
   unfolding fieldsOf read pick steppedRemoval
-  nowork-good block h =
+  nowork-good block h turn =
       removal-changed s g (settledEvent (removalOf s .channel) (removalOf s .position) DR-MEM-RES-NOWORK 0 block) []
       (settled (removalOf s) DR-MEM-RES-NOWORK)
       (settled-arrays DR-MEM-RES-NOWORK)
@@ -160,11 +163,12 @@ module _ (s : List ℕ) (g : Given s) (o : isSet (outstandingOf s) ≡ true) whe
       (unfold settled in rw (removing-now s g o))
       short-empty
       (settled-facts s DR-MEM-RES-NOWORK h nowork-result)
+      (λ blocks removal. turn)
 
   -- 15, OK: the block's flag falls as well
-  taken-good : (k n : ℕ) → removalOf s .position < removalOf s .count → n ≤ mostBudget → k < blocksOf s → blockAt s k .permanent ≡ 0 → Good s (effect (settledEvent (removalOf s .channel) (removalOf s .position) DR-MEM-RES-OK n k) (withRemoval (withConfigured s k 0) (settled (removalOf s) DR-MEM-RES-OK)) [])
+  taken-good : (k n : ℕ) → removalOf s .position < removalOf s .count → n ≤ mostBudget → k < blocksOf s → blockAt s k .permanent ≡ 0 → Turn s (effect (settledEvent (removalOf s .channel) (removalOf s .position) DR-MEM-RES-OK n k) (withRemoval (withConfigured s k 0) (settled (removalOf s) DR-MEM-RES-OK)) []) → Good s (effect (settledEvent (removalOf s .channel) (removalOf s .position) DR-MEM-RES-OK n k) (withRemoval (withConfigured s k 0) (settled (removalOf s) DR-MEM-RES-OK)) [])
   unfolding fieldsOf read pick steppedRemoval seeBlocks seeRemoval settled
-  taken-good k n h l kb z =
+  taken-good k n h l kb z turn =
       let w = shape s g in
       let few : k < mostBlocks = omega (arith, w .few) in
       let a = configured-moves s w k 0 few in
@@ -181,6 +185,7 @@ module _ (s : List ℕ) (g : Given s) (o : isSet (outstandingOf s) ≡ true) whe
         removal =
             removes-made (withConfigured s k 0) (lastOf s + 1) (settled (removalOf s) DR-MEM-RES-OK) (w′ .size) (w′ .few) (settled-arrays DR-MEM-RES-OK)
             (settled-facts (withConfigured s k 0) DR-MEM-RES-OK h ok-result);
+        turn = turn;
       }
 
   -- 16
@@ -194,20 +199,21 @@ module _ (s : List ℕ) (g : Given s) (o : isSet (outstandingOf s) ≡ true) whe
       failing (At i) = unfold failingCode in (omega arith)
       failing Nowhere = unfold failingCode in (omega arith)
 
-  end-good : (replied : ℕ) (reply : List ℕ) → replied ≤ 1 → length reply ≤ outputBytes → Good s (effect (removalEndEvent (removalOf s .channel) (endCode s (removalOf s)) replied (removalOf s .request)) (withoutRemoval s) reply)
+  end-good : (replied : ℕ) (reply : List ℕ) → replied ≤ 1 → length reply ≤ outputBytes → Turn s (effect (removalEndEvent (removalOf s .channel) (endCode s (removalOf s)) replied (removalOf s .request)) (withoutRemoval s) reply) → Good s (effect (removalEndEvent (removalOf s .channel) (endCode s (removalOf s)) replied (removalOf s .request)) (withoutRemoval s) reply)
   unfolding fieldsOf read pick
-  end-good replied reply r f = record {
+  end-good replied reply r f turn = record {
     entry = end-fits _ _ (next-number s g) (facts .channels) _ replied _ code-small r;
     moves = without-moves s (shape s g);
     fits = f;
     base = base-without s (lastOf s + 1) (base-now s g);
     removal = removes-none (withoutRemoval s) (lastOf s + 1) (without-outstanding s (g .size));
+    turn = turn;
   }
 
-  ending-good : Good s (ending s (removalOf s))
+  ending-good : Turn s (ending s (removalOf s)) → Good s (ending s (removalOf s))
   unfolding ending
   ending-good =
-      on-pick (Good s) _ _ _ (λ e. end-good 1 _ (omega arith) late-short) (λ e. end-good 0 [] (omega arith) short-empty)
+      on-pick (λ (e : Effect). Turn s e → Good s e) _ _ _ (λ e. end-good 1 _ (omega arith) late-short) (λ e. end-good 0 [] (omega arith) short-empty)
     where
       late-short : length (lateReply s (removalOf s)) ≤ outputBytes
       late-short =
@@ -224,28 +230,23 @@ module _ (s : List ℕ) (g : Given s) (o : isSet (outstandingOf s) ≡ true) whe
   flag-one (suc zero) h n = refl
   flag-one (suc (suc c)) h n = absurd (omega arith)
 
-  collects-good : (i budget : ℕ) → budget ≤ mostBudget → Working s (removalOf s) i → (blockAt s i .configured ≡ 0 → ⊥) → Good s (collects s (removalOf s) i (pagesMoved s (removalOf s) i budget))
+  collects-good : (i budget : ℕ) → budget ≤ mostBudget → Working s (removalOf s) i → (blockAt s i .configured ≡ 0 → ⊥) → Turn s (collects s (removalOf s) i (pagesMoved s (removalOf s) i budget)) → Good s (collects s (removalOf s) i (pagesMoved s (removalOf s) i budget))
   unfolding collects pagesMoved
   collects-good i budget l w n =
       let less = named-less s (addrNow (removalOf s)) (sizeNow (removalOf s)) i (w .named) in
       let b = block-rules _ _ (g .facts .base .blocks i less) .0 in
       let room = room-now i w (flag-one _ (b .flag) n) in
       let old = less-collected _ _ (facts .room) (omega (arith, room, b .some)) in
-      on-pick (Good s) _ _ _
+      on-pick (λ (e : Effect). Turn s e → Good s e) _ _ _
       (λ q. taken-good i _ (w .more) (omega arith) less (w .movable))
-      (λ q.
-      let d = eqb-false _ _ q in
-      collected-good _ (blockAt s i .pages) (omega arith) room
-      (below (removalOf s .collected) budget (blockAt s i .pages) (omega (arith, room, old)) d))
-    where
-      below : (c n p : ℕ) → c < p → (c + min n (p - c) ≡ p → ⊥) → c + min n (p - c) < p
-      below c n p h d = omega arith
+      (λ q. collected-good _ (blockAt s i .pages) (omega arith) room (omega (arith, room, old, eqb-false, leb-false)))
 
-pub working-good : (s : List ℕ) (g : Given s) (budget : ℕ) → isSet (outstandingOf s) ≡ true → budget ≤ mostBudget → Good s (working s budget .effects)
-working-good s g budget o l =
-    on-step (λ (x : WorkStep). Good s (x .effects)) s (removalOf s) budget
+pub working-good : (s : List ℕ) (g : Given s) (budget : ℕ) → isSet (outstandingOf s) ≡ true → 1 ≤ budget → budget ≤ mostBudget → Good s (working s budget .effects)
+working-good s g budget o one l =
+    on-step (λ (x : WorkStep). Turn s (x .effects) → Good s (x .effects)) s (removalOf s) budget
     (record {
       onEnd = ending-good s g o;
-      onNowork = λ i w. nowork-good s g o i (w .more);
+      onNowork = λ i w z. nowork-good s g o i (w .more);
       onCollect = λ i w n. collects-good s g o i budget l w n;
     })
+    (steps budget one (removes-now s g o .one) refl)

@@ -7,7 +7,7 @@ use mathlib.Core.Bool.{true}
 use mathlib.Core.List.{List, [], _++_, append-assoc}
 use lib.ListN.{length, drop}
 use Rattle.wire.specs.BigEndian.{bytesOf, numberAt, written}
-use Rattle.wire.proofs.Laws.{length-bytes, number-after, number-of-bytes}
+use Rattle.wire.proofs.Laws.{length-bytes, number-of-bytes}
 use Rattle.model.specs.Choice.{pick, _or_}
 use Rattle.model.specs.Layout.{removalOf, isSet, memoryService, outstandingOf, stateWords}
 use Rattle.model.specs.Messages.{Effect, dsData, dsMessage, registeredAs}
@@ -17,14 +17,11 @@ use Rattle.model.specs.Calls.{Outcome, accepted, allowed, effectOf, inRa
 use Rattle.model.specs.Demand3.{noted}
 use Rattle.model.specs.Kept.{WorkKept, pagesIn}
 use Rattle.model.proofs.Choice.{on-pick}
+use Rattle.model.proofs.Replies.{behind}
 use Rattle.model.proofs.WorkEffects.{on-step}
 use Rattle.model.proofs.Calls.{Taken, taken, passed, on-act}
 use Rattle.model.proofs.Kept.{noted-is}
 use Rattle.model.specs.Journal.{collectedEvent, removalEndEvent, settledEvent}
-
--- a number behind the k elements of a
-behind : (a l : List ℕ) (k at n : ℕ) → length a ≡ k → numberAt (a ++ l) (k + at) n ≡ numberAt l at n
-behind a l k at n e = rw (← e) (number-after a l at n)
 
 -- the handle of a memory reply at the start of an output
 handle-of : (handle type argument request : ℕ) (records rest : List ℕ) → handle < 2 ^ 64 → numberAt (memoryReply handle type argument request records ++ rest) 8 8 ≡ handle
@@ -78,7 +75,7 @@ working-tells s budget =
     on-step (Tells s) s (removalOf s) budget
     (record {
       onEnd = ending-tells s;
-      onNowork = λ i w. silent s _ refl (pages-settled _ _ _ _ _);
+      onNowork = λ i w z. silent s _ refl (pages-settled _ _ _ _ _);
       onCollect = λ i w n. collecting-tells s i (pagesMoved s (removalOf s) i budget);
     })
 
@@ -108,7 +105,7 @@ work-taken : (s j out : List ℕ) (budget : ℕ) → length s ≡ stateWords →
 unfolding effectOf
 work-taken s j out budget size z = taken s j out (work budget) size z
 
-work-allowed : (s j out : List ℕ) (budget : ℕ) → refusalOf s j out (work budget) ≡ 0 → isSet (outstandingOf s) ≡ true
+pub work-allowed : (s j out : List ℕ) (budget : ℕ) → refusalOf s j out (work budget) ≡ 0 → isSet (outstandingOf s) ≡ true
 unfolding refusalOf allowed
 work-allowed s j out budget z = passed s (length j) (length out) (inRange (work budget)) (isSet (outstandingOf s)) z .isAllowed
 

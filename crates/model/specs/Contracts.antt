@@ -1,4 +1,4 @@
--- The contracts of the calls, and demand 3 of every list of calls that meet them. The state, the journal and the output (or drain's run) are
+-- The contracts of the calls, and what holds of every list of calls that meet them, demand 3 first. The state, the journal and the output (or drain's run) are
 -- lent: what a call leaves of them is an argument.
 -- Assumes nothing.
 use Prim.Native.Nat.{ℕ}
@@ -11,6 +11,7 @@ use Rattle.model.specs.declared.Started.{Started}
 use Rattle.model.specs.Blocks.{Lists}
 use Rattle.model.specs.Calls.{Action, receive, offer, withdraw, close, work, Call, act, drain, Outcome, outcome, started, shown}
 use Rattle.model.specs.Demand3.{Run, Done, after, runs, newRun, Demand3}
+use Rattle.model.specs.Repeats.{Repeats}
 
 -- what a function returned and left, as an outcome
 abbrev pub answered : Answer → List ℕ → List ℕ → List ℕ → Outcome
@@ -92,11 +93,20 @@ unfoldable pub AllMeet : Run → List Done → Type 0
 AllMeet u [] = Unit {0}
 AllMeet u (d ∷ ds) = Meets (u .state) (u .journal) (d .call) (d .gave) × AllMeet (after u d) ds
 
--- Demand 3 for every list of calls that meet their contracts, from a setup that meets its contract and does not refuse.
-abbrev pub Demand3Holds : Type 0
-Demand3Holds =
+-- A claim of every list of calls that meet their contracts, from a setup that meets its contract and does not refuse: of the lists that setup was
+-- given, its state, a first journal of any words and the calls made, each with what it returned and left.
+abbrev pub OfEveryList : (Lists → List ℕ → List ℕ → List Done → Type 0) → Type 0
+OfEveryList P =
     (l : Lists) (r : Started) (j : List ℕ) (ds : List Done) →
     SetupPost l r →
     r .refusal ≡ 0 →
     AllMeet (newRun (r .state) j) ds →
-    Demand3 l (r .state) j ds (runs (newRun (r .state) j) ds)
+    P l (r .state) j ds
+
+-- What holds of a list of calls: demand 3, and what the tickets claim of the same lists.
+pub record ListHolds (l : Lists) (s j : List ℕ) (ds : List Done) : Type 0 where
+  pub demand3 : Demand3 l s j ds (runs (newRun s j) ds)
+  pub repeats : Repeats s j ds
+
+abbrev pub ListsHold : Type 0
+ListsHold = OfEveryList ListHolds

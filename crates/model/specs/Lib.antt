@@ -10,6 +10,7 @@ pub mod Work
 pub mod Calls
 pub mod Reading
 pub mod Demand3
+pub mod Repeats
 pub mod Kept
 pub mod Contracts
 pub mod Handler

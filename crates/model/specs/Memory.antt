@@ -6,7 +6,7 @@ use mathlib.Core.List.{List, [], _∷_, _++_}
 use lib.ListN.{length, getD, replicate}
 use lib.Dec.{leb, ltb, eqb}
 use Rattle.wire.specs.BigEndian.{numberAt, bytesOf}
-use Rattle.model.specs.Choice.{pick, _and_, every, tabulate, joined}
+use Rattle.model.specs.Choice.{pick, _and_, tabulate, joined}
 use Rattle.model.specs.declared.Found.{Found}
 use Rattle.model.specs.declared.Found.the-variants.{At, Nowhere}
 use Rattle.model.specs.declared.Removal.{Removal}
@@ -76,19 +76,12 @@ addrIn b i = numberAt b (memoryHeaderBytes + i * pairBytes) 8
 abbrev pub sizeIn : List ℕ → ℕ → ℕ
 sizeIn b i = numberAt b (memoryHeaderBytes + 8 + i * pairBytes) 8
 
--- "no pair twice"
-unfoldable pub pairsDiffer : List ℕ → Bool
-pairsDiffer b =
-    every (argumentOf b)
-    (λ i. every i (λ k. not (eqb (addrIn b k) (addrIn b i) and eqb (sizeIn b k) (sizeIn b i))))
-
--- "argument n from 1 to 16, exactly 16n bytes (addr, size) after the header, no pair twice"
+-- "argument n from 1 to 16, exactly 16n bytes (addr, size) after the header". A pair may stand twice (02, ticket 2: "01 is wrong").
 unfoldable pub hasRecords : List ℕ → Bool
 hasRecords b =
     leb 1 (argumentOf b)
     and leb (argumentOf b) mostRecords
     and eqb (length b) (memoryHeaderBytes + argumentOf b * pairBytes)
-    and pairsDiffer b
 
 -- "argument 0, nothing after"
 unfoldable pub hasNothing : List ℕ → Bool

@@ -9,19 +9,13 @@ use lib.ListN.{length, take, drop, replicate, length-drop, getD-replicate, take-
 use lib.Seq.{getD-drop, ext-getD}
 use Rattle.wire.specs.BigEndian.{byteAt, numberAt}
 use lib.Dec.{eqb}
-use borrow.Author.Tests.{eq-eqb, ne-eqb, le-leb, leb-true, eqb-true, le-ltb, lt-ltb}
-use Rattle.model.specs.Choice.{pick, _and_, every, tabulate}
+use borrow.Author.Tests.{ne-eqb, le-leb, leb-true, eqb-true, le-ltb, lt-ltb}
+use Rattle.model.specs.Choice.{pick, _and_, tabulate}
 use Rattle.model.specs.declared.Request.{Request}
 use Rattle.model.specs.declared.Request.the-variants.{Configure, Unconfigure, Query, Status, Cancel, Malformed}
-use Rattle.model.specs.Memory.{requestType, argumentOf, pairsDiffer, hasRecords, hasNothing, requestOf, DR-MEM-CONFIGURE, DR-MEM-QUERY, DR-MEM-UNCONF-CANCEL, DR-MEM-UNCONF-STATUS, DR-MEM-UNCONFIGURE}
+use Rattle.model.specs.Memory.{requestType, argumentOf, hasRecords, hasNothing, requestOf, DR-MEM-CONFIGURE, DR-MEM-QUERY, DR-MEM-UNCONF-CANCEL, DR-MEM-UNCONF-STATUS, DR-MEM-UNCONFIGURE}
 use Rattle.model.proofs.Choice.{both, and-false, and-false-right, tabulate-at, tabulate-length}
-use Rattle.requests.specs.Pairs.{samePair, newPair}
 use Rattle.model.specs.Layout.{memoryHeaderBytes, mostRecords, pairBytes}
-
--- the pairs differ where each is new
-pub pairs-new : (b : List ℕ) (n : ℕ) → n ≡ argumentOf b → every n (λ i. newPair b i) ≡ pairsDiffer b
-unfolding pairsDiffer newPair samePair
-pairs-new b n e = rw e
 
 -- the numbers of a request with records
 pub record Counted (b : List ℕ) : Type 0 where
@@ -34,12 +28,12 @@ unfolding hasRecords
 counted b e =
     let p = both _ _ e in
     let q = both _ _ (p .1) in
-    let r = both _ _ (q .1) in
-    record { some = leb-true _ _ (p .0); few = leb-true _ _ (q .0); whole = eqb-true _ _ (r .0) }
+    record { some = leb-true _ _ (p .0); few = leb-true _ _ (q .0); whole = eqb-true _ _ (q .1) }
 
-pub counted-last : (b : List ℕ) → Counted b → hasRecords b ≡ pairsDiffer b
+-- where the argument is in range, the length decides
+pub counted-last : (b : List ℕ) → 1 ≤ argumentOf b → argumentOf b ≤ mostRecords → hasRecords b ≡ eqb (length b) (memoryHeaderBytes + argumentOf b * pairBytes)
 unfolding hasRecords _and_
-counted-last b c = rw (le-leb _ _ (c .some), le-leb _ _ (c .few), eq-eqb _ _ (c .whole))
+counted-last b some few = rw (le-leb _ _ some, le-leb _ _ few)
 
 -- what a request with a header is, by its type and the two tests of its form
 abbrev chosen : ℕ → Bool → Bool → ℕ → Request

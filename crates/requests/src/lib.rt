@@ -13,9 +13,8 @@ ghost use Prim.Native.Nat.{_+_, _*_, _≤_, _<_};
 ghost use lib.ListN.{length};
 ghost use Rattle.wire.specs.BigEndian.{numberAt};
 ghost use Rattle.model.specs.Choice.{tabulate};
-ghost use Rattle.model.specs.Memory.{DR-MEM-UNCONF-STATUS, DR-MEM-UNCONF-CANCEL, argumentOf, requestNumber, addrIn, sizeIn, pairsDiffer, hasRecords, hasNothing, requestOf};
+ghost use Rattle.model.specs.Memory.{DR-MEM-UNCONF-STATUS, DR-MEM-UNCONF-CANCEL, requestNumber, addrIn, sizeIn, hasRecords, hasNothing, requestOf};
 ghost use Rattle.model.specs.Layout.{memoryHeaderBytes, pairBytes, mostRecords};
-ghost use Rattle.requests.specs.Pairs.{samePair, newPair};
 
 // The address of record `i`.
 pub fn address(b: &[u8], i: usize) -> u64
@@ -33,48 +32,7 @@ pub fn size(b: &[u8], i: usize) -> u64
     wire::get64(b, MEMORY_HEADER_BYTES + 8 + i * PAIR_BYTES)
 }
 
-// Records `k` and `i` are the same pair.
-fn same_pair(b: &[u8], k: usize, i: usize) -> bool
-    requires { ⌜ (memoryHeaderBytes + pairBytes + k * pairBytes ≤ length (now b)) × (memoryHeaderBytes + pairBytes + i * pairBytes ≤ length (now b)) ⌝ }
-    ensures { λ r. ⌜ r ≡ samePair (now (b .entry)) k i ⌝ }
-{
-    if address(b, k) != address(b, i) {
-        return false;
-    }
-    size(b, k) == size(b, i)
-}
-
-// Record `i` is none of those before it.
-fn new_pair(b: &[u8], i: usize) -> bool
-    requires { ⌜ memoryHeaderBytes + pairBytes + i * pairBytes ≤ length (now b) ⌝ }
-    ensures { λ r. ⌜ r ≡ newPair (now (b .entry)) i ⌝ }
-{
-    let mut k: usize = 0;
-    while k < i {
-        if same_pair(b, k, i) {
-            return false;
-        }
-        k += 1;
-    }
-    true
-}
-
-// "no pair twice"
-fn pairs_differ(b: &[u8], n: usize) -> bool
-    requires { ⌜ (n ≡ argumentOf (now b)) × (memoryHeaderBytes + n * pairBytes ≤ length (now b)) ⌝ }
-    ensures { λ r. ⌜ r ≡ pairsDiffer (now (b .entry)) ⌝ }
-{
-    let mut i: usize = 0;
-    while i < n {
-        if !new_pair(b, i) {
-            return false;
-        }
-        i += 1;
-    }
-    true
-}
-
-// "argument n from 1 to 16, exactly 16n bytes (addr, size) after the header, no pair twice"
+// "argument n from 1 to 16, exactly 16n bytes (addr, size) after the header"; a pair may stand twice
 fn has_records(b: &[u8]) -> bool
     requires { ⌜ memoryHeaderBytes ≤ length (now b) ⌝ }
     ensures { λ r. ⌜ r ≡ hasRecords (now (b .entry)) ⌝ }
@@ -86,10 +44,7 @@ fn has_records(b: &[u8]) -> bool
     if MOST_RECORDS < n {
         return false;
     }
-    if b.len() != MEMORY_HEADER_BYTES + n * PAIR_BYTES {
-        return false;
-    }
-    pairs_differ(b, n)
+    b.len() == MEMORY_HEADER_BYTES + n * PAIR_BYTES
 }
 
 // "argument 0, nothing after"

@@ -2,6 +2,7 @@
 
 use super::random::Random;
 use crate::block::{Block, Pair, PAGE};
+use crate::removal::MAX_RECORDS;
 use crate::state::{Service, State, CHANNELS};
 use crate::{build, memory, wire};
 
@@ -185,12 +186,17 @@ fn pair_of(block: &Block) -> Pair {
     }
 }
 
-/// A pair that names a block, nearly names one, or is unknown.
-fn pair(random: &mut Random, state: &State) -> Pair {
-    let unknown = Pair {
+/// A pair that hardly ever names a block.
+fn unknown(random: &mut Random) -> Pair {
+    Pair {
         addr: random.next() >> random.below(40) & !(PAGE - 1),
         size: random.between(1, 1 << 20) * PAGE,
-    };
+    }
+}
+
+/// A pair that names a block, nearly names one, or is unknown.
+fn pair(random: &mut Random, state: &State) -> Pair {
+    let unknown = unknown(random);
     let blocks: Vec<Pair> = state.blocks.listed().iter().map(pair_of).collect();
     let exact = random.pick_any(&blocks).unwrap_or(unknown);
     let other = random.pick_any(&blocks).unwrap_or(unknown);
@@ -210,17 +216,27 @@ fn pair(random: &mut Random, state: &State) -> Pair {
     Pair { addr, size }
 }
 
-/// `count` pairs, none twice.
+/// `count` pairs; some of them are the same where there are few blocks.
 fn pairs(random: &mut Random, state: &State, count: u64) -> Vec<Pair> {
-    let mut list: Vec<Pair> = Vec::new();
-    while list.len() < count as usize {
-        let mut pair = pair(random, state);
-        while list.contains(&pair) {
-            pair.addr = random.next();
-        }
-        list.push(pair);
+    (0..count).map(|_| pair(random, state)).collect()
+}
+
+/// Repeats some pairs of a list: next to the first, further on, or after an
+/// unknown pair, at which CONFIGURE and a removal fail. At most 16 stay.
+fn repeat(random: &mut Random, list: &mut Vec<Pair>) {
+    for _ in 0..random.pick(&[1, 1, 2, 4]) {
+        let at = random.below(list.len() as u64);
+        let place = match random.weighted(&[40, 40, 20]) {
+            0 => at + 1,
+            1 => random.between(at + 1, list.len() as u64),
+            _ => {
+                list.push(unknown(random));
+                list.len() as u64
+            }
+        };
+        list.insert(place as usize, list[at as usize]);
     }
-    list
+    list.truncate(MAX_RECORDS);
 }
 
 /// Pairs that name blocks, in random order; none if no block fits.
@@ -243,23 +259,26 @@ fn record_count(random: &mut Random) -> u64 {
     }
 }
 
-/// The pairs of a good request, 1 to 16.
+/// The pairs of a good request, 1 to 16, a third of the lists with repeats.
 fn good_pairs(random: &mut Random, state: &State, memory_type: u32) -> Vec<Pair> {
     let plain: fn(&Block) -> bool = match memory_type {
         memory::CONFIGURE => |block| !block.configured,
         memory::UNCONFIGURE => |block| block.permanent == 0 && block.configured,
         _ => |block| block.permanent > 0,
     };
-    let list = match random.weighted(&[45, 25, 30]) {
+    let mut list = match random.weighted(&[45, 25, 30]) {
         0 => named(random, state, plain),
         1 => named(random, state, |_| true),
         _ => Vec::new(),
     };
-    if !list.is_empty() {
-        return list;
+    if list.is_empty() {
+        let count = record_count(random);
+        list = pairs(random, state, count);
     }
-    let count = record_count(random);
-    pairs(random, state, count)
+    if random.once_in(3) {
+        repeat(random, &mut list);
+    }
+    list
 }
 
 fn request_number(random: &mut Random) -> u64 {
@@ -307,7 +326,7 @@ pub fn bad_memory(random: &mut Random, state: &State) -> Vec<u8> {
         argument | 0x1_0000,
         argument << 24,
     ];
-    match random.weighted(&[20, 15, 15, 8, 12, 12, 8, 2]) {
+    match random.weighted(&[20, 15, 15, 8, 12, 8, 2]) {
         0 => message.truncate(random.below(16) as usize),
         1 => message.truncate(random.between(16, length.max(17) - 1) as usize),
         2 => message[4..8].copy_from_slice(&random.pick(&wrong).to_be_bytes()),
@@ -315,13 +334,12 @@ pub fn bad_memory(random: &mut Random, state: &State) -> Vec<u8> {
             let more = random.pick(&[1, 8, 15, 16]);
             message.extend(random.bytes(more));
         }
-        4 => return repeated(random, state, memory_type),
-        5 => {
+        4 => {
             let any = random.next() as u32;
             let other = random.pick(&[0, 0x4d, 0x6f, 0x65, 0x4d44, 0x4d43_0000, 0x1_4d51, any]);
             message[..4].copy_from_slice(&other.to_be_bytes());
         }
-        6 => {
+        5 => {
             let count = random.pick(&[0, 17, 17, 18]);
             let list = pairs(random, state, count);
             message = build::request(memory_type, request_number(random), &list);
@@ -329,15 +347,6 @@ pub fn bad_memory(random: &mut Random, state: &State) -> Vec<u8> {
         _ => message.resize(wire::MAX_PAYLOAD - 8, 0),
     }
     message
-}
-
-/// A request in which one pair stands twice.
-fn repeated(random: &mut Random, state: &State, memory_type: u32) -> Vec<u8> {
-    let count = random.between(1, 15);
-    let mut list = pairs(random, state, count);
-    let at = random.below(count + 1) as usize;
-    list.insert(at, random.pick(&list.clone()));
-    build::request(memory_type, request_number(random), &list)
 }
 
 /// A channel that a message may come on.

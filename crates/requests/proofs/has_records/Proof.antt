@@ -1,5 +1,5 @@
 use native.Mathlib.Omega.{arith}
-use mathlib.Core.Path.{_∙_, sym}
+use mathlib.Core.Path.{sym}
 use Rattle.model.proofs.Loops.{refute}
 use Rattle.requests.proofs.Laws.{counted, counted-last}
 use borrow.Author.Needs.{needs}
@@ -15,30 +15,14 @@ returns c = refute _ (λ e. omega (arith, counted _ e))
 returns-2 : tie.Need-returns-2
 returns-2 c = refute _ (λ e. omega (arith, counted _ e))
 
-mul-if3 : tie.Need-mul-if3
-mul-if3 c = search needs
+mul-result : tie.Need-mul-result
+mul-result c = search needs
 
-add-if3 : tie.Need-add-if3
-add-if3 c = search needs
+add-result : tie.Need-add-result
+add-result c = search needs
 
 returns-3 : tie.Need-returns-3
-returns-3 c = refute _ (λ e. omega (arith, counted _ e))
-
-pairs-differ-requires : tie.Need-pairs-differ-requires
-pairs-differ-requires c κs = search needs
-
-returns-4 : tie.Need-returns-4
-returns-4 c = c .pairs-differ .ensures ∙ sym (counted-last _ (record { some = omega arith; few = omega arith; whole = omega arith }))
+returns-3 c = rw (c .before .before .get32 .ensures .0) (sym (counted-last _ (omega arith) (omega arith)))
 
 pub has-records-spec : {M : Type 1} → statement M
-has-records-spec =
-    tie.close
-    (tie.spec
-    get32-requires
-    returns
-    returns-2
-    mul-if3
-    add-if3
-    returns-3
-    pairs-differ-requires
-    returns-4)
+has-records-spec = tie.close (tie.spec get32-requires returns returns-2 mul-result add-result returns-3)

@@ -1,0 +1,8 @@
+-- What holds of every list of calls that meet their contracts.
+-- Assumes nothing.
+use Rattle.model.specs.Contracts.{ListsHold}
+use Rattle.model.proofs.Demand3.{demand3}
+use Rattle.model.proofs.Repeats.{repeats}
+
+pub lists-hold : ListsHold
+lists-hold l r j ds e z m = record { demand3 = demand3 l r j ds e z m; repeats = repeats l r j ds e z m }

@@ -1,0 +1,99 @@
+-- 02, ticket 2: "A repeat is handled in its turn: in demand 3's lists one that a removal settles, or that a configure comes to before any failure,
+-- gets NOWORK. QUERY repeats its answer." A claim about a list of calls with what each returned and left, as Demand3 is.
+-- Assumes nothing.
+use Prim.Native.Nat.{ℕ, _+_, _*_, _<_}
+use mathlib.Core.Path.{_≡_}
+use mathlib.Core.Bool.{Bool, true, false}
+use mathlib.Core.List.{List, _∷_, _++_}
+use lib.ListN.{getD, take, drop}
+use lib.Dec.{eqb}
+use Rattle.wire.specs.BigEndian.{numberAt}
+use Rattle.model.specs.Choice.{_or_, every}
+use Rattle.model.specs.declared.Found.{Found}
+use Rattle.model.specs.declared.Found.the-variants.{At, Nowhere}
+use Rattle.model.specs.declared.Removal.{Removal}
+use Rattle.model.specs.declared.Request.the-variants.{Configure, Query}
+use Rattle.model.specs.Layout.{memoryService, dataHeaderBytes, replyHeaderBytes, resultBytes, queryBytes, blockAt, outstandingOf, removalOf}
+use Rattle.model.specs.Blocks.{namedBlock}
+use Rattle.model.specs.Journal.{kindSettled, codeNone}
+use Rattle.model.specs.Memory.{DR-MEM-RES-FAILURE, DR-MEM-RES-NOWORK, addrIn, sizeIn, requestOf}
+use Rattle.model.specs.Calls.{act, receive, work, Outcome}
+use Rattle.model.specs.Demand3.{Done, newRun, runs, noted, replyOf, reached, WellFormedData}
+
+-- record i of a request has the pair of record k, which stands earlier
+pub record Repeat (addr size : ℕ → ℕ) (k i : ℕ) : Type 0 where
+  pub earlier : k < i
+  pub sameAddress : addr k ≡ addr i
+  pub sameSize : size k ≡ size i
+
+-- the pairs of a removal
+abbrev pub addressAt : Removal → ℕ → ℕ
+addressAt m i = getD (m .address) i 0
+
+abbrev pub sizeAt : Removal → ℕ → ℕ
+sizeAt m i = getD (m .size) i 0
+
+-- the block that a pair names is unconfigured
+unfoldable pub isUnconfigured : List ℕ → Found → Bool
+isUnconfigured s (At i) = eqb (blockAt s i .configured) 0
+isUnconfigured s Nowhere = false
+
+-- While a removal is outstanding, the block of each settled record is unconfigured. It holds of every list's state, and not of every sound one.
+unfoldable pub settledUnconfigured : List ℕ → Bool
+settledUnconfigured s =
+    eqb (outstandingOf s) 0
+    or every (removalOf s .position) (λ i. isUnconfigured s (namedBlock s (addressAt (removalOf s) i) (sizeAt (removalOf s) i)))
+
+-- the record at the position of m is settled NOWORK, in the entry and in the state that the step left
+pub record SettledNowork (m : Removal) (r : Outcome) : Type 0 where
+  pub inEntry : noted r .code ≡ DR-MEM-RES-NOWORK
+  pub inState : getD (removalOf (r .state) .result) (m .position) 0 ≡ DR-MEM-RES-NOWORK
+
+-- the result of record i in a reply to CONFIGURE ("addr, size, result"), and record i of a reply to QUERY
+abbrev pub resultIn : List ℕ → ℕ → ℕ
+resultIn reply i = numberAt reply (replyHeaderBytes + i * resultBytes + 16) 4
+
+abbrev pub answerIn : List ℕ → ℕ → List ℕ
+answerIn reply i = take queryBytes (drop (replyHeaderBytes + i * queryBytes) reply)
+
+-- an accepted receive of well-formed data that has reached the memory service, answered neither ERROR nor BLOCKED: its entry's code is 0
+pub record Answered (m : List ℕ) (handle : ℕ) (r : Outcome) : Type 0 where
+  pub isData : WellFormedData m handle
+  pub accepted : r .refusal ≡ 0
+  pub reaches : reached handle r ≡ At memoryService
+  pub noCode : noted r .code ≡ codeNone
+
+-- the memory request in a message
+abbrev pub requestIn : List ℕ → List ℕ
+requestIn m = drop dataHeaderBytes m
+
+-- Of setup's state s, a first journal j and the calls made, each with what it returned and left.
+pub record Repeats (s j : List ℕ) (ds : List Done) : Type 0 where
+  pub unconfigured : settledUnconfigured (runs (newRun s j) ds .state) ≡ true
+  -- "one that a removal settles": at each place of the list, of what that work step itself returned and left
+  pub settles :
+      (before later : List Done) (budget : ℕ) (out : List ℕ) (r : Outcome) (k : ℕ) →
+      ds ≡ before ++ record { call = act (work budget) out; gave = r } ∷ later →
+      r .refusal ≡ 0 →
+      noted r .kind ≡ kindSettled →
+      Repeat (addressAt (removalOf (runs (newRun s j) before .state))) (sizeAt (removalOf (runs (newRun s j) before .state))) k (removalOf (runs (newRun s j) before .state) .position) →
+      SettledNowork (removalOf (runs (newRun s j) before .state)) r
+  -- "or that a configure comes to before any failure"
+  pub configures :
+      (before later : List Done) (c handle : ℕ) (m out : List ℕ) (r : Outcome) (n k i : ℕ) →
+      ds ≡ before ++ record { call = act (receive c m) out; gave = r } ∷ later →
+      Answered m handle r →
+      requestOf (requestIn m) ≡ Configure n →
+      i < n →
+      Repeat (addrIn (requestIn m)) (sizeIn (requestIn m)) k i →
+      ((q : ℕ) → q < i → resultIn (replyOf r) q ≡ DR-MEM-RES-FAILURE → ⊥) →
+      resultIn (replyOf r) i ≡ DR-MEM-RES-NOWORK
+  -- "QUERY repeats its answer."
+  pub queries :
+      (before later : List Done) (c handle : ℕ) (m out : List ℕ) (r : Outcome) (n k i : ℕ) →
+      ds ≡ before ++ record { call = act (receive c m) out; gave = r } ∷ later →
+      Answered m handle r →
+      requestOf (requestIn m) ≡ Query n →
+      i < n →
+      Repeat (addrIn (requestIn m)) (sizeIn (requestIn m)) k i →
+      answerIn (replyOf r) i ≡ answerIn (replyOf r) k
