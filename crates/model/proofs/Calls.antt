@@ -102,6 +102,10 @@ taken s j out a size z =
       good = action-good s g a (p .isWithin) (p .isAllowed);
     }
 
+pub in-range : (s j out : List ℕ) (a : Action) → refusalOf s j out a ≡ 0 → inRange a ≡ true
+unfolding refusalOf
+in-range s j out a z = passed s (length j) (length out) (inRange a) (allowed s a) z .isWithin
+
 -- what holds of both outcomes of an action, and of a drain
 pub on-act : (P : Outcome → Type 0) (s j out : List ℕ) (a : Action) → (refusalOf s j out a ≡ 0 → P (accepted s j out (pagesOf s a) (effectOf s a))) → ((refusalOf s j out a ≡ 0 → ⊥) → P (refused s j out (refusalOf s j out a))) → P (outcome s j (act a out))
 unfolding outcome

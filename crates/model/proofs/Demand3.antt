@@ -29,6 +29,11 @@ unfolding AllMeet runs
 meets-here u [] d later m = m .0
 meets-here u (x ∷ before) d later m = meets-here (after u x) before d later (m .1)
 
+pub meets-after : (u : Run) (before : List Done) (d : Done) (later : List Done) → AllMeet u (before ++ d ∷ later) → AllMeet (after (runs u before) d) later
+unfolding AllMeet runs
+meets-after u [] d later m = m .1
+meets-after u (x ∷ before) d later m = meets-after (after u x) before d later (m .1)
+
 -- setup refuses by 7 and nothing else, so where it does not refuse the lists are accepted, and the state is theirs
 refusal-of : (b : Bool) (x y : Started) → x .refusal ≡ 0 → y .refusal ≡ 7 → pick b x y .refusal ≡ 0 → b ≡ true
 unfolding pick

@@ -22,6 +22,8 @@ pub mod Setup
 pub mod Delivers
 pub mod Demand3
 pub mod Repeats
+pub mod AddsUp
+pub mod Ends
 pub mod ListsHold
 pub mod Handlers
 pub mod Kept

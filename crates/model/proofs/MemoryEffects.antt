@@ -176,7 +176,7 @@ module _ (s : List ℕ) (g : Given s) where
         room = collected-none (removalRoom s (newRemoval c handle request b n));
         results = refl;
       })
-      (λ blocks removal. begins (newRemoval c handle request b n) blocks removal refl o refl)
+      (λ blocks removal. begins (newRemoval c handle request b n) blocks removal refl refl o refl)
 
   -- what is shown of an outstanding removal
   pub removing-now : isSet (outstandingOf s) ≡ true → viewOf s .removal ≡ removing (removalOf s .cancelled) (removalOf s .position) (removalOf s .collected)

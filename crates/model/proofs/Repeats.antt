@@ -52,7 +52,7 @@ module _ (s : List ℕ) (q : settledUnconfigured s ≡ true) (few : removalOf s 
       eqb-true _ 0 (rw (again .sameAddress, again .sameSize, named) at (settled-at s q one k (again .earlier)))
 
   nowork-step : (e : Effect) → Step s e → outstandingOf s ≡ 1 → e .event .kind ≡ kindSettled → (e .event .code ≡ DR-MEM-RES-NOWORK) × (getD (removalOf (e .state) .result) (removalOf s .position) 0 ≡ DR-MEM-RES-NOWORK)
-  nowork-step e (adds i n w b r ev) o h = absurd (omega (arith, ap (λ (v : Event). v .kind) ev, h))
+  nowork-step e (adds i n w b r d ev) o h = absurd (omega (arith, ap (λ (v : Event). v .kind) ev, h))
   nowork-step e (nowork i w b r z ev) o h = (
     ap (λ (v : Event). v .code) ev,
     rw (r .removal) (unfold settled in (getD-set-same (removalOf s .result) (removalOf s .position) DR-MEM-RES-NOWORK 0 (omega (arith, loaded-arrays s .results, w .more)))),

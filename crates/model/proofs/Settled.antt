@@ -85,7 +85,7 @@ more-settled t m m′ p a z f here i h = rw (a, z) (go (eqb i (m .position)) ref
 
 -- a work step keeps it
 settled-step : (s : List ℕ) (e : Effect) → Step s e → outstandingOf s ≡ 1 → settledUnconfigured s ≡ true → settledUnconfigured (e .state) ≡ true
-settled-step s e (adds i n w b r ev) o q =
+settled-step s e (adds i n w b r d ev) o q =
     settled-make (e .state)
     (rw (r .removal)
     (same-kept s (e .state) b (removalOf s) (collecting (removalOf s) n) (unfold collecting in refl) (unfold collecting in refl) (unfold collecting in refl) (settled-at s q o)))
@@ -115,7 +115,7 @@ settled-step s e (ends b o k) one q = settled-none (e .state) o
 pub settled-turn : (s : List ℕ) → Given s → (e : Effect) → Turn s e → settledUnconfigured s ≡ true → settledUnconfigured (e .state) ≡ true
 settled-turn s g e (leaves b r a) q = settled-same s (e .state) b r q
 settled-turn s g e (configures b o o′ a) q = settled-none (e .state) o′
-settled-turn s g e (begins m b r p o k) q = settled-make (e .state) (rw (r .removal) (λ i h. absurd (omega (arith, p))))
+settled-turn s g e (begins m b r p c o k) q = settled-make (e .state) (rw (r .removal) (λ i h. absurd (omega (arith, p))))
 settled-turn s g e (marks b r o k) q =
     settled-make (e .state)
     (rw (r .removal)

@@ -134,6 +134,8 @@ pub record Starts (l : Lists) : Type 0 where
   pub held : heldOf (setupState l) ≡ 0
   pub view : viewOf (setupState l) ≡ setupView l
   pub outstanding : outstandingOf (setupState l) ≡ 0
+  pub counted : blocksOf (setupState l) ≡ length (l .blocks) / blockWords
+  pub given : (i : ℕ) → i < length (l .blocks) / blockWords → blockAt (setupState l) i ≡ blockIn (l .blocks) 0 i
 
 pub starts : (l : Lists) → acceptedLists l ≡ true → Starts l
 unfolding acceptedLists
@@ -146,6 +148,8 @@ starts l e =
       held = high l f heldWord (omega arith);
       view = setup-view l f;
       outstanding = high l f outstandingWord (omega arith);
+      counted = count l f;
+      given = block l f;
     }
 
 pub empty-accepted : acceptedLists noLists ≡ true

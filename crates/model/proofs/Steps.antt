@@ -15,7 +15,7 @@ use Rattle.model.proofs.Choice.{on-pick}
 use Rattle.model.proofs.Words.{loaded-arrays, without-frame, without-outstanding}
 use Rattle.model.proofs.View.{shape-moves, configured-moves}
 use Rattle.model.proofs.Sounds.{count-flag, named-less}
-use Rattle.model.proofs.Turns.{SameSizes, SameBlocks, NewRemoval, same-blocks, sizes-then, flag-sizes, flag-now, flag-else, removal-blocks, new-removal}
+use Rattle.model.proofs.Turns.{Turn, leaves, configures, begins, marks, steps, SameSizes, SameBlocks, NewRemoval, same-blocks, sizes-then, flag-sizes, flag-now, flag-else, removal-blocks, new-removal}
 use Rattle.model.proofs.Effects.{Given, shape}
 use Rattle.model.proofs.WorkEffects.{Working, on-step, settled-arrays}
 
@@ -27,6 +27,7 @@ pub data Step (s : List ℕ) (e : Effect) : Type 0 where
       Working s (removalOf s) i →
       SameBlocks s (e .state) →
       NewRemoval (e .state) (collecting (removalOf s) n) →
+      (blockAt s i .configured ≡ 0 → ⊥) →
       e .event ≡ collectedEvent (removalOf s .channel) n →
       Step s e
   -- the record is settled NOWORK
@@ -52,12 +53,12 @@ pub data Step (s : List ℕ) (e : Effect) : Type 0 where
   ends : SameBlocks s (e .state) → outstandingOf (e .state) ≡ 0 → e .event .kind ≡ kindRemovalEnd → Step s e
 
 module _ (s : List ℕ) (g : Given s) (o : isSet (outstandingOf s) ≡ true) where
-  adds-step : (i n : ℕ) → Working s (removalOf s) i → Step s (effect (collectedEvent (removalOf s .channel) n) (withRemoval s (collecting (removalOf s) n)) [])
-  adds-step i n w =
+  adds-step : (i n : ℕ) → Working s (removalOf s) i → (blockAt s i .configured ≡ 0 → ⊥) → Step s (effect (collectedEvent (removalOf s .channel) n) (withRemoval s (collecting (removalOf s) n)) [])
+  adds-step i n w d =
       let a = loaded-arrays s in
       adds i n w (removal-blocks s (collecting (removalOf s) n) (g .facts .base .few))
       (new-removal s (collecting (removalOf s) n) (g .size) (unfold collecting in record { addresses = a .addresses; sizes = a .sizes; results = a .results }))
-      refl
+      d refl
 
   ok-step : (i n : ℕ) → Working s (removalOf s) i → (blockAt s i .configured ≡ 0 → ⊥) → Step s (effect (settledEvent (removalOf s .channel) (removalOf s .position) DR-MEM-RES-OK n i) (withRemoval (withConfigured s i 0) (settled (removalOf s) DR-MEM-RES-OK)) [])
   ok-step i n w d =
@@ -91,5 +92,20 @@ module _ (s : List ℕ) (g : Given s) (o : isSet (outstandingOf s) ≡ true) whe
             nowork i w (removal-blocks s (settled (removalOf s) DR-MEM-RES-NOWORK) (g .facts .base .few))
             (new-removal s (settled (removalOf s) DR-MEM-RES-NOWORK) (g .size) (settled-arrays s g o DR-MEM-RES-NOWORK))
             z refl;
-        onCollect = λ i w d. unfold collects in (on-pick (Step s) _ _ _ (λ e. ok-step i _ w d) (λ e. adds-step i _ w));
+        onCollect = λ i w d. unfold collects in (on-pick (Step s) _ _ _ (λ e. ok-step i _ w d) (λ e. adds-step i _ w d));
       })
+
+-- every step leaves the blocks' sizes as they are
+pub step-sizes : (s : List ℕ) (e : Effect) → Step s e → SameSizes s (e .state)
+step-sizes s e (adds i n w b r d ev) = b .sizes
+step-sizes s e (nowork i w b r z ev) = b .sizes
+step-sizes s e (ok i n w b other now r d ev) = b
+step-sizes s e (ends b o k) = b .sizes
+
+-- and so does every effect
+pub turn-sizes : (s : List ℕ) → Given s → (e : Effect) → Turn s e → SameSizes s (e .state)
+turn-sizes s g e (leaves b r a) = b .sizes
+turn-sizes s g e (configures b o o′ a) = b
+turn-sizes s g e (begins m b r p c o k) = b .sizes
+turn-sizes s g e (marks b r o k) = b .sizes
+turn-sizes s g e (steps budget some o same) = rw same (step-sizes s (working s budget .effects) (step-of s g (rw o) budget))

@@ -110,6 +110,7 @@ pub data Turn (s : List ℕ) (e : Effect) : Type 0 where
       SameBlocks s (e .state) →
       NewRemoval (e .state) m →
       m .position ≡ 0 →
+      m .collected ≡ 0 →
       outstandingOf s ≡ 0 →
       e .event .kind ≡ kindBegun →
       Turn s e

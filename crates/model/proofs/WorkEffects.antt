@@ -230,16 +230,23 @@ module _ (s : List ℕ) (g : Given s) (o : isSet (outstandingOf s) ≡ true) whe
   flag-one (suc zero) h n = refl
   flag-one (suc (suc c)) h n = absurd (omega arith)
 
-  collects-good : (i budget : ℕ) → budget ≤ mostBudget → Working s (removalOf s) i → (blockAt s i .configured ≡ 0 → ⊥) → Turn s (collects s (removalOf s) i (pagesMoved s (removalOf s) i budget)) → Good s (collects s (removalOf s) i (pagesMoved s (removalOf s) i budget))
-  unfolding collects pagesMoved
-  collects-good i budget l w n =
+  -- and some of them remain
+  pub remains : (i : ℕ) → Working s (removalOf s) i → (blockAt s i .configured ≡ 0 → ⊥) → (removalRoom s (removalOf s) ≡ blockAt s i .pages) × (removalOf s .collected < blockAt s i .pages)
+  remains i w n =
       let less = named-less s (addrNow (removalOf s)) (sizeNow (removalOf s)) i (w .named) in
       let b = block-rules _ _ (g .facts .base .blocks i less) .0 in
       let room = room-now i w (flag-one _ (b .flag) n) in
       let old = less-collected _ _ (facts .room) (omega (arith, room, b .some)) in
+      (room, omega (arith, room, old))
+
+  collects-good : (i budget : ℕ) → budget ≤ mostBudget → Working s (removalOf s) i → (blockAt s i .configured ≡ 0 → ⊥) → Turn s (collects s (removalOf s) i (pagesMoved s (removalOf s) i budget)) → Good s (collects s (removalOf s) i (pagesMoved s (removalOf s) i budget))
+  unfolding collects pagesMoved
+  collects-good i budget l w n =
+      let less = named-less s (addrNow (removalOf s)) (sizeNow (removalOf s)) i (w .named) in
+      let r = remains i w n in
       on-pick (λ (e : Effect). Turn s e → Good s e) _ _ _
       (λ q. taken-good i _ (w .more) (omega arith) less (w .movable))
-      (λ q. collected-good _ (blockAt s i .pages) (omega arith) room (omega (arith, room, old, eqb-false, leb-false)))
+      (λ q. collected-good _ (blockAt s i .pages) (omega arith) (r .0) (omega (arith, r .1, eqb-false, leb-false)))
 
 pub working-good : (s : List ℕ) (g : Given s) (budget : ℕ) → isSet (outstandingOf s) ≡ true → 1 ≤ budget → budget ≤ mostBudget → Good s (working s budget .effects)
 working-good s g budget o one l =

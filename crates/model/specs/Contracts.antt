@@ -12,6 +12,7 @@ use Rattle.model.specs.Blocks.{Lists}
 use Rattle.model.specs.Calls.{Action, receive, offer, withdraw, close, work, Call, act, drain, Outcome, outcome, started, shown}
 use Rattle.model.specs.Demand3.{Run, Done, after, runs, newRun, Demand3}
 use Rattle.model.specs.Repeats.{Repeats}
+use Rattle.model.specs.Ends.{Ends}
 
 -- what a function returned and left, as an outcome
 abbrev pub answered : Answer → List ℕ → List ℕ → List ℕ → Outcome
@@ -107,6 +108,7 @@ OfEveryList P =
 pub record ListHolds (l : Lists) (s j : List ℕ) (ds : List Done) : Type 0 where
   pub demand3 : Demand3 l s j ds (runs (newRun s j) ds)
   pub repeats : Repeats s j ds
+  pub ends : Ends l s j ds
 
 abbrev pub ListsHold : Type 0
 ListsHold = OfEveryList ListHolds

@@ -11,6 +11,7 @@ pub mod Calls
 pub mod Reading
 pub mod Demand3
 pub mod Repeats
+pub mod Ends
 pub mod Kept
 pub mod Contracts
 pub mod Handler

@@ -1,0 +1,105 @@
+-- 02, ticket 12: "For a removal whose named blocks have P pages together, repeats counted again, show that in every list of demand 3 it has ended by the
+-- (P + 1)th accepted work step after its beginning, and that the pages moved in the entries of each record settled OK add up to that block's pages exactly."
+-- A claim about a list of calls with what each returned and left, as Demand3 is.
+-- Assumes nothing.
+use Prim.Native.Nat.{ℕ, zero, suc, _+_, _/_, _≤_, _<_}
+use mathlib.Core.Path.{_≡_}
+use mathlib.Core.Bool.{Bool, true, false}
+use mathlib.Core.List.{List, [], _∷_, _++_}
+use lib.ListN.{length, getD, take}
+use lib.Dec.{eqb}
+use Rattle.entry.specs.Word.{unpacked}
+use Rattle.model.specs.Choice.{pick, _and_, _or_}
+use Rattle.model.specs.declared.Event.{Event}
+use Rattle.model.specs.declared.Found.{Found}
+use Rattle.model.specs.declared.Found.the-variants.{At, Nowhere}
+use Rattle.model.specs.declared.Removal.{Removal}
+use Rattle.model.specs.Layout.{blockWords, blockIn, blockAt, removalOf}
+use Rattle.model.specs.Blocks.{Lists, namedBlock}
+use Rattle.model.specs.Journal.{Entry, eventOf, kindBegun, kindCollected, kindSettled, kindRemovalEnd}
+use Rattle.model.specs.Memory.{DR-MEM-RES-OK}
+use Rattle.model.specs.Calls.{Action, receive, offer, withdraw, close, work, Call, act, drain, Outcome}
+use Rattle.model.specs.Demand3.{Done, newRun, runs, entries, noEntry, noted}
+use Rattle.model.specs.Repeats.{addressAt, sizeAt}
+
+-- the pages of the block that a pair names; an unknown pair has none
+unfoldable pub pagesAt : List ℕ → Found → ℕ
+pagesAt s (At i) = blockAt s i .pages
+pagesAt s Nowhere = 0
+
+-- those of the first n records of a removal together, "repeats counted again"
+unfoldable pub pagesOfFirst : List ℕ → Removal → ℕ → ℕ
+pagesOfFirst s m zero = 0
+pagesOfFirst s m (suc n) = pagesOfFirst s m n + pagesAt s (namedBlock s (addressAt m n) (sizeAt m n))
+
+-- P, of the removal that a state has
+abbrev pub pagesNamed : List ℕ → ℕ
+pagesNamed s = pagesOfFirst s (removalOf s) (removalOf s .count)
+
+-- the accepted work steps of a list
+unfoldable pub isWork : Action → Bool
+isWork (receive c m) = false
+isWork (offer c v) = false
+isWork (withdraw c v) = false
+isWork (close c) = false
+isWork (work budget) = true
+
+unfoldable pub stepsBy : Call → Outcome → ℕ
+stepsBy (act a out) r = pick (isWork a and eqb (r .refusal) 0) 1 0
+stepsBy (drain run) r = 0
+
+unfoldable pub stepsIn : List Done → ℕ
+stepsIn [] = 0
+stepsIn (d ∷ ds) = stepsBy (d .call) (d .gave) + stepsIn ds
+
+-- an accepted call whose entry is a removal's end (kind 16), and a list that has one
+unfoldable pub endsBy : Call → Outcome → Bool
+endsBy (act a out) r = eqb (r .refusal) 0 and eqb (noted r .kind) kindRemovalEnd
+endsBy (drain run) r = false
+
+unfoldable pub endsIn : List Done → Bool
+endsIn [] = false
+endsIn (d ∷ ds) = endsBy (d .call) (d .gave) or endsIn ds
+
+-- what an entry tells
+abbrev pub told : Entry → Event
+told e = eventOf (unpacked (e .first)) (e .second)
+
+-- The pages of the record that is not settled yet: those of the entries of kind 14 since the last of kind 12 or 15. A CANCEL (13) is followed by the removal's
+-- end before any other record is settled, so that the entries before it belong to no record settled OK.
+unfoldable pub movedBy : ℕ → Event → ℕ
+movedBy n e =
+    pick (eqb (e .kind) kindBegun or eqb (e .kind) kindSettled) 0
+    (pick (eqb (e .kind) kindCollected) (n + e .count)
+    n)
+
+unfoldable pub movedSince : ℕ → List Entry → ℕ
+movedSince n [] = n
+movedSince n (e ∷ es) = movedSince (movedBy n (told e)) es
+
+-- the entry of a record settled OK
+pub record SettledOk (e : Entry) : Type 0 where
+  pub isSettled : told e .kind ≡ kindSettled
+  pub isOk : told e .code ≡ DR-MEM-RES-OK
+
+-- its block is listed, and the pages moved before it for its record and by it are that block's
+pub record AddsUp (l : Lists) (before : List Entry) (e : Entry) : Type 0 where
+  pub listed : told e .word < length (l .blocks) / blockWords
+  pub pages : movedSince 0 before + told e .count ≡ blockIn (l .blocks) 0 (told e .word) .pages
+
+-- Of the lists l that setup was given, its state s, a first journal j and the calls made, each with what it returned and left.
+pub record Ends (l : Lists) (s j : List ℕ) (ds : List Done) : Type 0 where
+  -- "it has ended by the (P + 1)th accepted work step after its beginning", whatever other calls stand between
+  pub ends :
+      (before between later : List Done) (a : Action) (out : List ℕ) (r : Outcome) →
+      ds ≡ before ++ record { call = act a out; gave = r } ∷ (between ++ later) →
+      r .refusal ≡ 0 →
+      noted r .kind ≡ kindBegun →
+      pagesNamed (r .state) + 1 ≤ stepsIn between →
+      endsIn between ≡ true
+  -- "the pages moved in the entries of each record settled OK add up to that block's pages exactly": of the entries drained, then those held
+  pub addsUp :
+      (i : ℕ) →
+      i < length (entries (runs (newRun s j) ds)) →
+      SettledOk (getD (entries (runs (newRun s j) ds)) i noEntry) →
+      AddsUp l (take i (entries (runs (newRun s j) ds))) (getD (entries (runs (newRun s j) ds)) i noEntry)
