@@ -287,7 +287,7 @@ requested s c handle request b Cancel = cancelling s c handle request
 requested s c handle request b Malformed = answeringError s c handle request
 
 -- 02, ticket 4. A request of right form: whatever is not answered ERROR for its form.
-unfoldable pub rightForm : Request → Bool
+abbrev pub rightForm : Request → Bool
 rightForm (Configure n) = true
 rightForm (Unconfigure n) = true
 rightForm (Query n) = true
