@@ -22,3 +22,4 @@ pub mod Kept
 pub mod WorkKept
 pub mod Day
 pub mod Encoding
+pub mod Search
