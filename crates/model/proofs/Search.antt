@@ -103,7 +103,8 @@ module _ (b : ℕ → Block) (addr size : ℕ) where
       let k : ℕ = middleOf low (suc m) in
       let up = few-looked t (k + 1) (aboveMiddle (suc m)) in
       let down = few-looked t low (belowMiddle (suc m)) in
-      let fewer = halvings-more t t (belowMiddle (suc m)) (aboveMiddle (suc m)) (omega arith) (omega arith) in
+      let above = halvings-more t t (aboveMiddle (suc m)) (suc m / 2) (omega arith) (omega arith) in
+      let below = halvings-more t t (belowMiddle (suc m)) (suc m / 2) (omega arith) (omega arith) in
       on-turn (b k) k addr size (λ r. length (r .looked) ≤ halvingsWithin (suc t) (suc m))
       (searchWithin b addr size t (k + 1) (aboveMiddle (suc m))) (searchWithin b addr size t low (belowMiddle (suc m)))
       (λ _. omega arith) (λ _. omega arith) (λ _. omega arith)
@@ -279,7 +280,8 @@ same-told s s′ addr size r r′ count x x′ same = record {
         each-in (λ k. blockAt s′ k ≡ blockAt s k) (searchOf s addr size .looked)
         (λ i h.
         let below : i < r .count = omega (arith, x .counted) in
-        rw (← x .places, getD-take (r .count) (r .looked) i 0 below) (same i below))
+        let place = ap (λ (xs : List ℕ). getD xs i 0) (sym (x .places)) ∙ getD-take (r .count) (r .looked) i 0 below in
+        subst (λ (k : ℕ). blockAt s′ k ≡ blockAt s k) (sym place) (same i below))
 
     alike : searchOf s′ addr size ≡ searchOf s addr size
     alike = rw count (same-in s s′ firstBlockWord (blocksOf s) addr size there)
