@@ -238,7 +238,7 @@ impl Case {
             self.name
         );
         println!(
-            "{:<40} {:>10.1} {:>12.1} {:>8.2}",
+            "{:<46} {:>10.1} {:>12.1} {:>8.2}",
             self.name,
             least,
             least_theirs,
@@ -253,7 +253,7 @@ fn cases() -> Vec<Case> {
         for records in [1, 4, 16] {
             let handles = channels * 4;
             cases.push(Case {
-                name: format!("QUERY of {records}, {blocks} blocks, {handles} live handles"),
+                name: format!("QUERY: records {records}, blocks {blocks}, live handles {handles}"),
                 blocks,
                 channels,
                 prepare: Prepare::Nothing,
@@ -280,7 +280,7 @@ fn cases() -> Vec<Case> {
 
 fn main() {
     println!(
-        "{:<40} {:>10} {:>12} {:>8}",
+        "{:<46} {:>10} {:>12} {:>8}",
         "ns a call", "proved", "independent", "ratio"
     );
     cases().iter().for_each(Case::run);
