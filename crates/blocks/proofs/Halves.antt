@@ -7,13 +7,10 @@ use native.Mathlib.Numerals.{add-one}
 use native.Mathlib.Omega.{arith}
 use lib.ListN.{length, set, take, length-append, length-set}
 use lib.Seq.{take-suc-set, length-take-le}
-use lib.Dec.{eqb}
-use Rattle.model.specs.Choice.{pick}
 use Rattle.model.specs.declared.Found.{Found}
-use Rattle.model.specs.declared.Found.the-variants.{At, Nowhere}
+use Rattle.model.specs.declared.Found.the-variants.{Nowhere}
 use Rattle.model.specs.Layout.{blockAt, blocksOf, firstBlockWord, mostBlocks, mostLooked}
-use Rattle.model.specs.Blocks.{sizeOf}
-use Rattle.model.specs.Search.{Search, belowMiddle, aboveMiddle, middleOf, foundAs, lookedFirst, turnAt, searchLeft, searchIn, searchOf, Tells}
+use Rattle.model.specs.Search.{Search, belowMiddle, aboveMiddle, middleOf, foundAs, lookedFirst, foundThere, turnAt, searchLeft, searchIn, searchOf, Tells}
 use Rattle.model.proofs.Search.{halvings-more, none-left, turn-here, turn-above, turn-below, search-holds}
 
 -- the blocks told of were looked at before
@@ -74,7 +71,7 @@ module _ (s : List ℕ) (addr size : ℕ) where
       unfolding Going
       going-below l = turned ∙ ap (before (take count looked)) (turn-below _ _ _ _ _ _ l) ∙ told-more _
 
-      pub tells-here : {x : Found} → blockAt s (middleOf low m) .base ≡ addr → x ≡ pick (eqb (sizeOf (blockAt s (middleOf low m))) size) (At (middleOf low m)) Nowhere → Tells (searchOf s addr size) (record { found = x; looked = set looked count (middleOf low m); count = count + 1 })
+      pub tells-here : {x : Found} → blockAt s (middleOf low m) .base ≡ addr → x ≡ foundThere (blockAt s (middleOf low m)) (middleOf low m) size → Tells (searchOf s addr size) (record { found = x; looked = set looked count (middleOf low m); count = count + 1 })
       tells-here e q =
           tells-end (set looked count (middleOf low m)) (count + 1) (rw length-set (omega arith))
           (rw q (turned ∙ ap (before (take count looked)) (turn-here _ _ _ _ _ _ e) ∙ told-more _))

@@ -13,11 +13,11 @@ use lib.Seq.{getD-take}
 use lib.Dec.{ltb, eqb}
 use borrow.Author.Tests.{leb-true, eqb-true, eqb-false, ltb-true, ltb-false, eq-eqb, ne-eqb, lt-ltb, le-ltb}
 use Rattle.model.specs.Choice.{pick, _and_, halvings, halvingsWithin, firstBelow}
-use Rattle.model.specs.declared.Found.the-variants.{At, Nowhere}
+use Rattle.model.specs.declared.Found.the-variants.{Nowhere}
 use Rattle.model.specs.declared.Searched.{Searched}
 use Rattle.model.specs.Layout.{Block, blockIn, blockAt, blocksOf, blockWords, blockCountWord, pagesPlace, mostBlocks, firstBlockWord, withConfigured}
 use Rattle.model.specs.Blocks.{sizeOf, blockKeeps, endBefore, blocksKeep, acceptedBlocks, names, namedIn}
-use Rattle.model.specs.Search.{Search, belowMiddle, aboveMiddle, middleOf, foundAs, lookedFirst, turnAt, searchWithin, searchLeft, searchIn, searchOf, InOrder, BlocksInOrder, Tells, SameTold, SearchHolds}
+use Rattle.model.specs.Search.{Search, belowMiddle, aboveMiddle, middleOf, foundAs, lookedFirst, foundThere, turnAt, searchWithin, searchLeft, searchIn, searchOf, InOrder, BlocksInOrder, Tells, SameTold, SearchHolds}
 use Rattle.model.specs.State.{sound}
 use Rattle.model.proofs.Choice.{on-pick, both, and-false, every-at, first-is, first-nowhere}
 use Rattle.model.proofs.Words.{configured-frame}
@@ -48,7 +48,7 @@ halvings-half (suc n) h = ap suc (halvings-enough n (suc n / 2) (suc n / 2) (ome
 
 -- The turn in which block x is looked at, by its base.
 module _ (x : Block) (k addr size : ℕ) where
-  on-turn : (P : Search → Type 0) (above below : Search) → (x .base ≡ addr → P (lookedFirst k (foundAs (pick (eqb (sizeOf x) size) (At k) Nowhere)))) → (x .base < addr → P (lookedFirst k above)) → (addr < x .base → P (lookedFirst k below)) → P (turnAt x k addr size above below)
+  on-turn : (P : Search → Type 0) (above below : Search) → (x .base ≡ addr → P (lookedFirst k (foundAs (foundThere x k size)))) → (x .base < addr → P (lookedFirst k above)) → (addr < x .base → P (lookedFirst k below)) → P (turnAt x k addr size above below)
   unfolding turnAt
   on-turn P above below here up down =
       on-pick (λ r. P (lookedFirst k r)) _ _ _ (λ e. here (eqb-true _ _ e))
@@ -58,7 +58,7 @@ module _ (x : Block) (k addr size : ℕ) where
       (λ l. let g = ltb-false (x .base) addr l in down (omega arith)))
 
   module _ (above below : Search) where
-    pub turn-here : x .base ≡ addr → turnAt x k addr size above below ≡ lookedFirst k (foundAs (pick (eqb (sizeOf x) size) (At k) Nowhere))
+    pub turn-here : x .base ≡ addr → turnAt x k addr size above below ≡ lookedFirst k (foundAs (foundThere x k size))
     unfolding turnAt pick
     turn-here e = rw (eq-eqb _ _ e)
 
@@ -135,7 +135,8 @@ module _ (b : ℕ → Block) (addr size : ℕ) where
         by-side j h true e = lo j (ltb-true j low e)
         by-side j h false e = hi j (ltb-false j low e) h
 
-    here : (k : ℕ) → k < n → b k .base ≡ addr → pick (eqb (sizeOf (b k)) size) (At k) Nowhere ≡ firstBelow n (λ i. names addr size (b i))
+    here : (k : ℕ) → k < n → b k .base ≡ addr → foundThere (b k) k size ≡ firstBelow n (λ i. names addr size (b i))
+    unfolding foundThere
     here k h e =
         on-pick (λ x. x ≡ firstBelow n (λ i. names addr size (b i))) _ _ _
         (λ q. sym (first-is n _ k (record { below = h; passes = its-size (b k) k addr size e ∙ q; before = below-not k h (omega arith) })))

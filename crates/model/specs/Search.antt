@@ -35,13 +35,17 @@ foundAs x = record { found = x; looked = [] }
 abbrev pub lookedFirst : ℕ → Search → Search
 lookedFirst k r = record { found = r .found; looked = k ∷ r .looked }
 
+-- block x, at place k, whose base is addr: the pair names it if its size is all of it
+unfoldable pub foundThere : Block → ℕ → ℕ → Found
+foundThere x k size = pick (eqb (sizeOf x) size) (At k) Nowhere
+
 -- The turn in which block x, at place k, is looked at. The search ends there if its base is addr; if its base is below addr, it goes on
 -- among the blocks above it, else among those below it.
 unfoldable pub turnAt : Block → ℕ → ℕ → ℕ → Search → Search → Search
 turnAt x k addr size above below =
     lookedFirst k
     (pick (eqb (x .base) addr)
-    (foundAs (pick (eqb (sizeOf x) size) (At k) Nowhere))
+    (foundAs (foundThere x k size))
     (pick (ltb (x .base) addr) above below))
 
 -- The search for a pair among the m blocks b left from low on. Each turn leaves fewer, so that m turns are enough (`eachTurn` below).

@@ -6,6 +6,7 @@ use mathlib.Core.Path.{_≡_, refl}
 use native.Mathlib.Omega.{arith}
 use lib.ListN.{length, take, length-set}
 use Rattle.model.specs.Layout.{blocksOf, mostLooked, blockIn}
+use Rattle.model.specs.Search.{foundThere}
 use Rattle.blocks.proofs.Halves.{Going, going-first, room, going-above, going-below, tells-here, tells-nowhere}
 use Rattle.blocks.proofs.look_for.Statement.{statement}
 use Rattle.blocks.proofs.look_for.Tie as tie
@@ -70,7 +71,7 @@ found-at-requires c κs =
     let l = c .before .before .before .before in l .before .before .pre .small _ (omega arith)
 
 returns : tie.Need-returns Inv-loop μ-loop
-unfolding blockIn
+unfolding blockIn foundThere
 returns c =
     let b = c .before .before in
     let l = b .before .before in
