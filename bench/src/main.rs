@@ -13,7 +13,7 @@ use std::hint::black_box;
 use std::time::Instant;
 
 const ROUNDS: usize = 4000;
-const BLOCKS: u64 = 16;
+const PAGE: u64 = 8192;
 const BLOCK_BYTES: u64 = 1 << 33;
 const QUERY: u32 = 0x4d51;
 const UNCONFIGURE: u32 = 0x4d55;
@@ -61,27 +61,33 @@ fn ds_message(ds_type: u32, payload: &[u8]) -> Vec<u8> {
     message
 }
 
-/// A memory request of `count` records, for every `16 / count`-th block.
-fn request(memory_type: u32, count: u64, handle: u64) -> Vec<u8> {
+/// A memory request of `count` records over `blocks` blocks: for every
+/// `blocks / count`-th block; or for each block, and then for addresses in
+/// them, which name no block.
+fn request(memory_type: u32, count: u64, blocks: u64, handle: u64) -> Vec<u8> {
     let mut payload = handle.to_be_bytes().to_vec();
     payload.extend(memory_type.to_be_bytes());
     payload.extend((count as u32).to_be_bytes());
     payload.extend(7u64.to_be_bytes());
     for record in 0..count {
-        let block = (record + 1) * (BLOCKS / count) - 1;
-        payload.extend((block * BLOCK_BYTES).to_be_bytes());
+        let (block, pages) = if count <= blocks {
+            ((record + 1) * (blocks / count) - 1, 0)
+        } else {
+            (record % blocks, record / blocks)
+        };
+        payload.extend((block * BLOCK_BYTES + pages * PAGE).to_be_bytes());
         payload.extend(BLOCK_BYTES.to_be_bytes());
     }
     ds_message(9, &payload)
 }
 
 impl<A: Agent> Host<A> {
-    /// 16 configured blocks of 1,048,576 pages, one page of each permanent but
-    /// for the last; `channels` channels with four services registered each.
-    fn new(channels: u64) -> Self {
+    /// `blocks` configured blocks of 1,048,576 pages, one page of each permanent
+    /// but for the last; `channels` channels with four services registered each.
+    fn new(blocks: u64, channels: u64) -> Self {
         let mut list = Vec::new();
-        for block in 0..BLOCKS {
-            let permanent = u64::from(block + 1 < BLOCKS);
+        for block in 0..blocks {
+            let permanent = u64::from(block + 1 < blocks);
             list.extend([block * BLOCK_BYTES, 1 << 20, 0, permanent, 1]);
         }
         let mut host = Host {
@@ -146,10 +152,11 @@ impl<A: Agent> Host<A> {
     }
 }
 
-/// A case: the channels that are ready, what comes before the calls, and the
-/// calls of a batch.
+/// A case: the blocks, the channels that are ready, what comes before the
+/// calls, and the calls of a batch.
 struct Case {
     name: String,
+    blocks: u64,
     channels: u64,
     prepare: Prepare,
     calls: Calls,
@@ -172,13 +179,13 @@ enum Calls {
 
 impl Case {
     fn host<A: Agent>(&self) -> Host<A> {
-        let mut host = Host::<A>::new(self.channels);
+        let mut host = Host::<A>::new(self.blocks, self.channels);
         match self.prepare {
             Prepare::Nothing => {}
-            Prepare::Removal => host.receive(0, &request(UNCONFIGURE, 1, 2)),
+            Prepare::Removal => host.receive(0, &request(UNCONFIGURE, 1, self.blocks, 2)),
             Prepare::Full => {
                 for _ in 0..64 {
-                    host.receive(0, &request(QUERY, 1, 2));
+                    host.receive(0, &request(QUERY, 1, self.blocks, 2));
                 }
             }
         }
@@ -216,7 +223,7 @@ impl Case {
             Calls::Query(records) => records,
             _ => 1,
         };
-        let query = request(QUERY, records, 2);
+        let query = request(QUERY, records, self.blocks, 2);
         let mut ours = self.host::<Proved>();
         let mut theirs = self.host::<Independent>();
         let (mut least, mut least_theirs) = (f64::MAX, f64::MAX);
@@ -231,7 +238,7 @@ impl Case {
             self.name
         );
         println!(
-            "{:<34} {:>10.1} {:>12.1} {:>8.2}",
+            "{:<46} {:>10.1} {:>12.1} {:>8.2}",
             self.name,
             least,
             least_theirs,
@@ -242,10 +249,12 @@ impl Case {
 
 fn cases() -> Vec<Case> {
     let mut cases = Vec::new();
-    for channels in [1, 4] {
+    for (blocks, channels) in [(1, 1), (4, 1), (16, 1), (16, 4)] {
         for records in [1, 4, 16] {
+            let handles = channels * 4;
             cases.push(Case {
-                name: format!("QUERY of {records}, {} live handles", channels * 4),
+                name: format!("QUERY: records {records}, blocks {blocks}, live handles {handles}"),
+                blocks,
                 channels,
                 prepare: Prepare::Nothing,
                 calls: Calls::Query(records),
@@ -260,6 +269,7 @@ fn cases() -> Vec<Case> {
     for (name, prepare, calls) in others {
         cases.push(Case {
             name: name.to_string(),
+            blocks: 16,
             channels: 1,
             prepare,
             calls,
@@ -270,7 +280,7 @@ fn cases() -> Vec<Case> {
 
 fn main() {
     println!(
-        "{:<34} {:>10} {:>12} {:>8}",
+        "{:<46} {:>10} {:>12} {:>8}",
         "ns a call", "proved", "independent", "ratio"
     );
     cases().iter().for_each(Case::run);

@@ -1,17 +1,16 @@
--- The rules of a block, of the block that a pair names, and of a list of blocks, as facts.
+-- The rules of a block, and of a list of blocks, as facts.
 -- Assumes nothing.
-use mathlib.Core.Path.{_≡_, refl}
-use mathlib.Core.Bool.{Bool, true, false}
+use mathlib.Core.Path.{_≡_}
+use mathlib.Core.Bool.{true}
 use mathlib.Core.List.{List}
 use Prim.Native.Nat.{ℕ, _+_, _/_, _%_, _≤_}
-use native.Mathlib.Omega.{arith}
 use lib.ListN.{length}
 use lib.Dec.{eqb}
-use borrow.Author.Tests.{eqb-true, eqb-false, eq-eqb, leb-true, le-leb}
+use borrow.Author.Tests.{eqb-true, eq-eqb, leb-true, le-leb}
 use Rattle.blocks.specs.Permanent.{permanentKeeps}
 use Rattle.model.specs.Choice.{pick, _and_, every}
 use Rattle.model.specs.Layout.{Block, blockIn, blockWords, mostBlocks}
-use Rattle.model.specs.Blocks.{sizeOf, endOf, blockKeeps, endBefore, blocksKeep, acceptedBlocks, names, highestEnd, mostPages, pageSize}
+use Rattle.model.specs.Blocks.{endOf, blockKeeps, endBefore, blocksKeep, acceptedBlocks, highestEnd, mostPages, pageSize}
 use Rattle.model.proofs.Choice.{both}
 
 -- where the block lies, and how long it is
@@ -42,22 +41,6 @@ module _ (pages first permanent configured : ℕ) where
   pub permanent-last : first + permanent ≤ pages → configured ≤ 1 → permanentKeeps pages first permanent configured ≡ pick (eqb permanent 0) (eqb first 0) (eqb configured 1)
   unfolding permanentKeeps _and_
   permanent-last w f = rw (le-leb _ _ w, le-leb _ _ f)
-
-module _ (addr size : ℕ) (b : Block) where
-  pub names-rules : names addr size b ≡ true → (b .base ≡ addr) × (sizeOf b ≡ size)
-  unfolding names
-  names-rules t = let u = both _ _ t in (eqb-true _ _ (u .0), eqb-true _ _ (u .1))
-
-  -- by division, where the size is whole pages
-  pub names-divided : b .base ≡ addr → size % pageSize ≡ 0 → eqb (size / pageSize) (b .pages) ≡ names addr size b
-  unfolding names _and_
-  names-divided e w = rw (eq-eqb _ _ e) (go (eqb (size / pageSize) (b .pages)) refl (eqb (sizeOf b) size) refl)
-    where
-      go : (x : Bool) → eqb (size / pageSize) (b .pages) ≡ x → (y : Bool) → eqb (sizeOf b) size ≡ y → x ≡ y
-      go true p true q = refl
-      go true p false q = absurd (eqb-false (sizeOf b) size q (omega (arith, eqb-true (size / pageSize) (b .pages) p)))
-      go false p true q = absurd (eqb-false (size / pageSize) (b .pages) p (omega (arith, eqb-true (sizeOf b) size q)))
-      go false p false q = refl
 
 -- a list of blocks
 module _ (l : List ℕ) (at n : ℕ) where

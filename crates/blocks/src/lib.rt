@@ -6,15 +6,20 @@ use model::FIRST_BLOCK_WORD;
 use model::FIRST_PLACE;
 use model::Found;
 use model::MOST_BLOCKS;
+use model::MOST_LOOKED;
 use model::PAGES_PLACE;
 use model::PERMANENT_PLACE;
+use model::Searched;
 use model::State;
 ghost use mathlib.Core.Path.{_≡_};
 ghost use Prim.Native.Nat.{_+_, _*_, _≤_};
 ghost use lib.ListN.{length};
-ghost use Rattle.model.specs.Choice.{every};
+ghost use lib.Dec.{eqb};
+ghost use Rattle.model.specs.Choice.{every, pick};
+ghost use Rattle.model.specs.declared.Found.the-variants.{At, Nowhere};
 ghost use Rattle.model.specs.Layout.{mostBlocks, blockWords, blockIn, blocksOf, firstBlockWord};
-ghost use Rattle.model.specs.Blocks.{blockKeeps, endBefore, blocksKeep, acceptedBlocks, names, namedBlock};
+ghost use Rattle.model.specs.Blocks.{mostPages, pageSize, blockKeeps, endBefore, blocksKeep, acceptedBlocks, namedBlock};
+ghost use Rattle.model.specs.Search.{BlocksInOrder, Tells, searchOf};
 ghost use Rattle.blocks.specs.Permanent.{permanentKeeps};
 
 pub const PAGE_SIZE: u64 = 8192;
@@ -127,33 +132,61 @@ pub fn state_blocks_keep(state: &State) -> bool
     keep_rules(state, FIRST_BLOCK_WORD, n)
 }
 
-// "A pair names a block if addr is its base and size is all of it": its other words do not matter. By division, since a product of
-// any `pages` could wrap.
-fn names_block(base: u64, pages: u64, addr: u64, size: u64) -> bool
-    ensures { λ r. ⌜ r ≡ names addr size (record { base = base; pages = pages; first = 0; permanent = 0; configured = 0 }) ⌝ }
+// "A pair names a block if addr is its base and size is all of it": of the block at `place`, whose base is the pair's address. Its size
+// does not wrap: its pages are not too many.
+fn found_at(pages: u64, size: u64, place: usize) -> Found
+    requires { ⌜ pages ≤ mostPages ⌝ }
+    ensures { λ r. ⌜ r ≡ pick (eqb (pages * pageSize) size) (At place) Nowhere ⌝ }
 {
-    if base != addr {
-        return false;
+    if pages * PAGE_SIZE == size {
+        return Found::At { place: place };
     }
-    if size % PAGE_SIZE != 0 {
-        return false;
+    Found::Nowhere
+}
+
+// "look for each record by halves, and return which blocks were looked at, in order, each the (lower) middle of those left": `left` blocks
+// are, from `low` on.
+pub fn look_for(state: &State, addr: u64, size: u64) -> Searched
+    requires { ⌜ BlocksInOrder (now state) ⌝ }
+    ensures { λ r. ⌜ Tells (searchOf (now (state .entry)) addr size) r ⌝ }
+{
+    let mut looked = [0usize; MOST_LOOKED];
+    let mut count: usize = 0;
+    let mut low: usize = 0;
+    let mut left = state[BLOCK_COUNT_WORD] as usize;
+    while 0 < left {
+        let below = (left - 1) / 2;
+        let middle = low + below;
+        looked[count] = middle;
+        count += 1;
+        let b = FIRST_BLOCK_WORD + middle * BLOCK_WORDS;
+        let base = state[b];
+        if base == addr {
+            return Searched {
+                found: found_at(state[b + PAGES_PLACE], size, middle),
+                looked: looked,
+                count: count,
+            };
+        }
+        if base < addr {
+            low = middle + 1;
+            left = left / 2;
+        } else {
+            left = below;
+        }
     }
-    size / PAGE_SIZE == pages
+    Searched {
+        found: Found::Nowhere,
+        looked: looked,
+        count: count,
+    }
 }
 
 // The block that the pair names, if there is one.
 pub fn named_block(state: &State, addr: u64, size: u64) -> Found
-    requires { ⌜ blocksOf (now state) ≤ mostBlocks ⌝ }
+    requires { ⌜ BlocksInOrder (now state) ⌝ }
     ensures { λ r. ⌜ r ≡ namedBlock (now (state .entry)) addr size ⌝ }
 {
-    let n = state[BLOCK_COUNT_WORD] as usize;
-    let mut i: usize = 0;
-    while i < n {
-        let b = FIRST_BLOCK_WORD + i * BLOCK_WORDS;
-        if names_block(state[b], state[b + PAGES_PLACE], addr, size) {
-            return Found::At { place: i };
-        }
-        i += 1;
-    }
-    Found::Nowhere
+    let searched = look_for(state, addr, size);
+    searched.found
 }

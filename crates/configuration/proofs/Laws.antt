@@ -16,13 +16,14 @@ use Rattle.model.specs.Choice.{pick, _and_, every, tabulate, joined}
 use Rattle.model.specs.declared.Event.{Event}
 use Rattle.model.specs.declared.Found.{Found}
 use Rattle.model.specs.declared.Found.the-variants.{At, Nowhere}
-use Rattle.model.specs.Layout.{blocksOf, blockAt, blockCountWord, mostBlocks, mostRecords, withConfigured}
+use Rattle.model.specs.Layout.{blockAt, mostBlocks, mostRecords, withConfigured}
 use Rattle.model.specs.Blocks.{namedBlock}
+use Rattle.model.specs.Search.{BlocksInOrder}
 use Rattle.model.specs.Journal.{codeNone, answeredEvent, configuredEvent}
 use Rattle.model.specs.Memory.{configureOne, DR-MEM-OK, DR-MEM-RES-FAILURE, DR-MEM-RES-NOWORK, DR-MEM-RES-OK, addrIn, answering, answeringConfigure, configureAt, configureReply, configuredBy, memoryReply, oneConfigured, oneFailed, oneUnchanged, resultRecord, sizeIn}
 use Rattle.model.specs.Handler.{Handles}
 use Rattle.model.proofs.Choice.{both, pick-true, pick-false, every-at, tabulate-at, joined-same}
-use Rattle.model.proofs.Words.{configured-frame}
+use Rattle.model.proofs.Search.{in-order-configured}
 use Rattle.records.specs.Results.{resultsReply, ResultsWritten}
 use Rattle.configuration.specs.declared.OneDone.{OneDone}
 use Rattle.configuration.specs.declared.AllDone.{AllDone}
@@ -36,31 +37,31 @@ bit-is i h =
 
 -- A record that names block i, by the cases of the definition.
 module _ (s : List ℕ) (i : ℕ) where
-  pub unchanged-at : (blockAt s i .configured ≡ 0 → ⊥) → ConfiguresAt s (At i) (record { result = DR-MEM-RES-NOWORK; bit = 0 }) s
+  pub unchanged-at : BlocksInOrder s → (blockAt s i .configured ≡ 0 → ⊥) → ConfiguresAt s (At i) (record { result = DR-MEM-RES-NOWORK; bit = 0 }) s
   unfolding configureAt pick oneUnchanged
-  unchanged-at n = record {
+  unchanged-at o n = record {
     one = λ mask results. rw (ne-eqb _ _ n, add-zero);
     small = omega arith;
-    blocks = refl;
+    blocks = o;
   }
 
-  pub configured-at : {bit : ℕ} {s′ : List ℕ} → i < mostBlocks → blockAt s i .configured ≡ 0 → s′ ≡ withConfigured s i 1 → bit ≡ 2 ^ i → bit < bitsEnd → ConfiguresAt s (At i) (record { result = DR-MEM-RES-OK; bit = bit }) s′
+  pub configured-at : {bit : ℕ} {s′ : List ℕ} → BlocksInOrder s → blockAt s i .configured ≡ 0 → s′ ≡ withConfigured s i 1 → bit ≡ 2 ^ i → bit < bitsEnd → ConfiguresAt s (At i) (record { result = DR-MEM-RES-OK; bit = bit }) s′
   unfolding configureAt pick oneConfigured
-  configured-at few z e p small = record {
+  configured-at o z e p small = record {
     one = λ mask results. rw (eq-eqb _ _ z, e, p);
     small = small;
-    blocks = ap blocksOf e ∙ configured-frame s i 1 blockCountWord (λ p q. omega arith);
+    blocks = rw e (in-order-configured s i 1 o);
   }
 
-pub unknown-at : (s : List ℕ) → ConfiguresAt s Nowhere (record { result = DR-MEM-RES-FAILURE; bit = 0 }) s
+pub unknown-at : (s : List ℕ) → BlocksInOrder s → ConfiguresAt s Nowhere (record { result = DR-MEM-RES-FAILURE; bit = 0 }) s
 unfolding configureAt oneFailed
-unknown-at s = record { one = λ mask results. rw add-zero; small = omega arith; blocks = refl }
+unknown-at s o = record { one = λ mask results. rw add-zero; small = omega arith; blocks = o }
 
 -- One record.
 module _ (s : List ℕ) (failed : Bool) (addr size : ℕ) where
-  pub failed-one : failed ≡ true → ConfiguresOne s failed addr size (record { result = DR-MEM-RES-FAILURE; bit = 0 }) s
+  pub failed-one : BlocksInOrder s → failed ≡ true → ConfiguresOne s failed addr size (record { result = DR-MEM-RES-FAILURE; bit = 0 }) s
   unfolding configureOne pick oneFailed
-  failed-one f = record { one = λ mask results. rw (f, add-zero); small = omega arith; blocks = refl }
+  failed-one o f = record { one = λ mask results. rw (f, add-zero); small = omega arith; blocks = o }
 
   pub found-one : {r : OneDone} {s′ : List ℕ} (x : Found) → failed ≡ false → namedBlock s addr size ≡ x → ConfiguresAt s x r s′ → ConfiguresOne s failed addr size r s′
   unfolding configureOne pick
@@ -75,7 +76,7 @@ module _ (s b : List ℕ) where
   progress-more t mask failed result i addr size r t′ e h p q z =
       rw (add-one, take-suc-set result i (r .result) h, ← e, ← q, ← z) (p .one mask (take i result))
 
-  pub passes : (t : List ℕ) (mask : ℕ) (failed : Bool) (result : List ℕ) (i n : ℕ) → i ≤ n → n ≤ i → blocksOf t ≡ blocksOf s → progress t mask failed (take i result) ≡ configuredBy s b i
+  pub passes : (t : List ℕ) (mask : ℕ) (failed : Bool) (result : List ℕ) (i n : ℕ) → i ≤ n → n ≤ i → BlocksInOrder t → progress t mask failed (take i result) ≡ configuredBy s b i
       → ConfiguresAll s b n (record { mask = mask; result = result }) t
   passes t mask failed result i n l m k e =
       let same : i ≡ n = omega arith in

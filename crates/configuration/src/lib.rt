@@ -11,6 +11,7 @@ ghost use Prim.Native.Nat.{_+_, _*_, _^_, _≤_, _<_};
 ghost use lib.ListN.{length};
 ghost use Rattle.model.specs.declared.Found.the-variants.{At};
 ghost use Rattle.model.specs.Layout.{blocksOf, memoryHeaderBytes, mostBlocks, mostRecords, outputBytes, pairBytes};
+ghost use Rattle.model.specs.Search.{BlocksInOrder};
 ghost use Rattle.model.specs.Memory.{configuredBy, answeringConfigure};
 ghost use Rattle.model.specs.Handler.{Handles};
 ghost use Rattle.configuration.specs.Progress.{bitsEnd, ConfiguresAt, ConfiguresOne, ConfiguresAll};
@@ -31,7 +32,7 @@ struct OneDone {
 
 // "unconfigured gives OK (0) and configures, configured gives NOWORK (4)"
 fn configure_at(state: &mut State, i: usize) -> OneDone
-    requires { ⌜ (i < blocksOf (now state)) × (blocksOf (now state) ≤ mostBlocks) ⌝ }
+    requires { ⌜ (i < blocksOf (now state)) × BlocksInOrder (now state) ⌝ }
     ensures { λ r. ⌜ ConfiguresAt (now (state .entry)) (At i) r (now (state .exit)) ⌝ }
 {
     if state::configured_of(state, i) != 0 {
@@ -49,7 +50,7 @@ fn configure_at(state: &mut State, i: usize) -> OneDone
 
 // "unknown gives FAILURE (1) and so does every record after it"
 fn configure_one(state: &mut State, failed: bool, addr: u64, size: u64) -> OneDone
-    requires { ⌜ blocksOf (now state) ≤ mostBlocks ⌝ }
+    requires { ⌜ BlocksInOrder (now state) ⌝ }
     ensures { λ r. ⌜ ConfiguresOne (now (state .entry)) failed addr size r (now (state .exit)) ⌝ }
 {
     if failed {
@@ -76,7 +77,7 @@ struct AllDone {
 
 // "CONFIGURE: in order"
 fn configure_all(state: &mut State, b: &[u8], n: usize) -> AllDone
-    requires { ⌜ (n ≤ mostRecords) × (length (now b) ≡ memoryHeaderBytes + n * pairBytes) × (blocksOf (now state) ≤ mostBlocks) ⌝ }
+    requires { ⌜ (n ≤ mostRecords) × (length (now b) ≡ memoryHeaderBytes + n * pairBytes) × BlocksInOrder (now state) ⌝ }
     ensures { λ r. ⌜ ConfiguresAll (now (state .entry)) (now (b .entry)) n r (now (state .exit)) ⌝ }
 {
     let mut mask: u64 = 0;
@@ -106,7 +107,7 @@ pub fn configure(
     n: usize,
     out: &mut [u8],
 ) -> Handled
-    requires { ⌜ (blocksOf (now state) ≤ mostBlocks) × (n ≤ mostRecords) × (length (now b) ≡ memoryHeaderBytes + n * pairBytes) × (outputBytes ≤ length (now out)) ⌝ }
+    requires { ⌜ BlocksInOrder (now state) × (n ≤ mostRecords) × (length (now b) ≡ memoryHeaderBytes + n * pairBytes) × (outputBytes ≤ length (now out)) ⌝ }
     ensures { λ r. ⌜ Handles (answeringConfigure (configuredBy (now (state .entry)) (now (b .entry)) n) channel handle request (now (b .entry)) n) (now (out .entry)) (r .length) (r .event) (now (state .exit)) (now (out .exit)) ⌝ }
 {
     let done = configure_all(state, b, n);

@@ -9,6 +9,7 @@ use lib.ListN.{length, getD, replicate, getD-replicate}
 use lib.Seq.{sets}
 use borrow.Author.Tests.{lt-ltb, le-ltb, eqb-true, ltb-true}
 use Rattle.wire.specs.BigEndian.{bytesOf, written}
+use Rattle.wire.proofs.Laws.{sets-whole}
 use Rattle.model.specs.Choice.{pick, _and_, tabulate}
 use Rattle.model.specs.declared.Event.{Event}
 use Rattle.model.specs.declared.Found.{Found}
@@ -30,7 +31,7 @@ use Rattle.model.proofs.Replies.{memory-length, status-length}
 use Rattle.requests.proofs.Laws.{counted}
 use Rattle.records.specs.Header.{memoryHeader}
 use Rattle.records.specs.Results.{ResultsWritten}
-use Rattle.records.proofs.Parts.{sets-whole, reply-length, reply-stored}
+use Rattle.records.proofs.Parts.{reply-length, reply-stored}
 use Rattle.configuration.proofs.Laws.{pairs-same}
 
 -- A sound removal's numbers.

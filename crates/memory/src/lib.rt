@@ -15,7 +15,8 @@ ghost use mathlib.Core.List.{List};
 ghost use Prim.Native.Nat.{ℕ, _+_, _*_, _≤_, _<_};
 ghost use lib.ListN.{length};
 ghost use Rattle.model.specs.declared.Request.the-variants.{Configure, Unconfigure};
-ghost use Rattle.model.specs.Layout.{blocksOf, channelCount, memoryHeaderBytes, mostBlocks, mostRecords, outputBytes, pairBytes, removalOf, statusBytes, withRemoval};
+ghost use Rattle.model.specs.Layout.{channelCount, memoryHeaderBytes, mostRecords, outputBytes, pairBytes, removalOf, statusBytes, withRemoval};
+ghost use Rattle.model.specs.Search.{BlocksInOrder};
 ghost use Rattle.model.specs.Blocks.{mostPages};
 ghost use Rattle.model.specs.State.{sound};
 ghost use Rattle.model.specs.Memory.{marked, answeredMemory, answeringError, beginning, blocked, cancelling, reporting, requestOf, requested, statusRecord};
@@ -164,7 +165,7 @@ fn block(
     n: usize,
     out: &mut [u8],
 ) -> Handled
-    requires { ⌜ (blocksOf (now state) ≤ mostBlocks) × (n ≤ mostRecords) × (length (now b) ≡ memoryHeaderBytes + n * pairBytes) × (outputBytes ≤ length (now out)) ⌝ }
+    requires { ⌜ BlocksInOrder (now state) × (n ≤ mostRecords) × (length (now b) ≡ memoryHeaderBytes + n * pairBytes) × (outputBytes ≤ length (now out)) ⌝ }
     ensures { λ r. ⌜ Handles (blocked (now (state .entry)) channel handle request (now (b .entry)) n) (now (out .entry)) (r .length) (r .event) (now (state .entry)) (now (out .exit)) ⌝ }
 {
     let address = requests::addresses(b, n);
@@ -187,7 +188,7 @@ fn hear_configure(
     n: usize,
     out: &mut [u8],
 ) -> Handled
-    requires { ⌜ (blocksOf (now state) ≤ mostBlocks) × (n ≤ mostRecords) × (length (now b) ≡ memoryHeaderBytes + n * pairBytes) × (outputBytes ≤ length (now out)) ⌝ }
+    requires { ⌜ BlocksInOrder (now state) × (n ≤ mostRecords) × (length (now b) ≡ memoryHeaderBytes + n * pairBytes) × (outputBytes ≤ length (now out)) ⌝ }
     ensures { λ r. ⌜ Handles (requested (now (state .entry)) channel handle request (now (b .entry)) (Configure n)) (now (out .entry)) (r .length) (r .event) (now (state .exit)) (now (out .exit)) ⌝ }
 {
     if state::is_outstanding(state) {
@@ -206,7 +207,7 @@ fn hear_unconfigure(
     n: usize,
     out: &mut [u8],
 ) -> Handled
-    requires { ⌜ (blocksOf (now state) ≤ mostBlocks) × (n ≤ mostRecords) × (length (now b) ≡ memoryHeaderBytes + n * pairBytes) × (outputBytes ≤ length (now out)) ⌝ }
+    requires { ⌜ BlocksInOrder (now state) × (n ≤ mostRecords) × (length (now b) ≡ memoryHeaderBytes + n * pairBytes) × (outputBytes ≤ length (now out)) ⌝ }
     ensures { λ r. ⌜ Handles (requested (now (state .entry)) channel handle request (now (b .entry)) (Unconfigure n)) (now (out .entry)) (r .length) (r .event) (now (state .exit)) (now (out .exit)) ⌝ }
 {
     let outstanding = state::is_outstanding(state);

@@ -30,3 +30,4 @@ pub mod Kept
 pub mod WorkKept
 pub mod Day
 pub mod Encoding
+pub mod Search

@@ -11,7 +11,7 @@ use lib.Dec.{ltb}
 use borrow.Author.Tests.{ltb-true, ltb-false}
 use Rattle.model.specs.Choice.{tabulate}
 use Rattle.model.specs.declared.Removal.{Removal}
-use Rattle.model.specs.Layout.{isSet, wordOf, removalOf, removalHead, withChannel, withService, withConfigured, withCounts, withRemoval, withoutRemoval, outstandingOf, cancelledOf, blockWords, cancelledWord, channelCount, channelWords, collectedWord, configuredPlace, countWord, firstAddressWord, firstBlockWord, firstResultWord, firstSizeWord, firstStageWord, heldWord, lastWord, mostRecords, outstandingWord, placeCount, positionWord, removalChannelWord, removalHandleWord, removalWords, requestWord, serviceWords, stateWords, headWords, firstNumberedWord, numberWords, withNumber}
+use Rattle.model.specs.Layout.{isSet, wordOf, removalOf, removalHead, withChannel, withService, withConfigured, withCounts, withRemoval, withoutRemoval, outstandingOf, cancelledOf, blockWords, cancelledWord, channelCount, channelWords, collectedWord, configuredPlace, countWord, firstAddressWord, firstBlockWord, firstResultWord, firstSizeWord, firstStageWord, heldWord, lastWord, mostRecords, outstandingWord, placeCount, positionWord, removalChannelWord, removalHandleWord, removalWords, requestWord, serviceWords, stateWords, headWords, firstNumberedWord, numberWords, withNumber, mostBlocks}
 use Rattle.model.proofs.Choice.{tabulate-at, tabulate-length, tabulate-same}
 
 -- A run of stores: before it, after it, outside it, inside it.
@@ -320,7 +320,7 @@ module _ (s : List ℕ) (c ready : ℕ) (n : length s ≡ stateWords) (b : c < c
       sets-at (set s c ready) (replicate channelWords 0) (firstStageWord + c * channelWords) i (omega arith) (omega (arith, length-set s c ready))
       ∙ getD-replicate channelWords i 0 0 h
 
-pub configured-word : (s : List ℕ) (i flag : ℕ) → length s ≡ stateWords → i < mostRecords → getD (withConfigured s i flag) (firstBlockWord + i * blockWords + configuredPlace) 0 ≡ flag
+pub configured-word : (s : List ℕ) (i flag : ℕ) → length s ≡ stateWords → i < mostBlocks → getD (withConfigured s i flag) (firstBlockWord + i * blockWords + configuredPlace) 0 ≡ flag
 unfolding withConfigured
 configured-word s i flag n h = getD-set-same s (firstBlockWord + i * blockWords + configuredPlace) flag 0 (omega arith)
 

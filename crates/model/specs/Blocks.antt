@@ -8,7 +8,7 @@ use lib.Seq.{sets}
 use lib.Dec.{leb, eqb}
 use Rattle.model.specs.declared.Found.{Found}
 use Rattle.model.specs.Choice.{pick, _and_, every, firstBelow}
-use Rattle.model.specs.Layout.{Block, blockIn, blockAt, blocksOf, mostBlocks, blockWords, stateWords, blockCountWord, firstBlockWord}
+use Rattle.model.specs.Layout.{Block, blockIn, blocksOf, mostBlocks, blockWords, stateWords, blockCountWord, firstBlockWord}
 
 -- "A page is 8,192 bytes."
 abbrev pub pageSize : ℕ
@@ -74,6 +74,9 @@ setupState l =
 unfoldable pub names : ℕ → ℕ → Block → Bool
 names addr size b = eqb (b .base) addr and eqb (sizeOf b) size
 
--- the block that the pair names, if there is one
+-- the block that the pair names, if there is one: of the n blocks whose words stand in l from at on, and of the state's
+abbrev pub namedIn : List ℕ → ℕ → ℕ → ℕ → ℕ → Found
+namedIn l at n addr size = firstBelow n (λ i. names addr size (blockIn l at i))
+
 unfoldable pub namedBlock : List ℕ → ℕ → ℕ → Found
-namedBlock s addr size = firstBelow (blocksOf s) (λ i. names addr size (blockAt s i))
+namedBlock s addr size = namedIn s firstBlockWord (blocksOf s) addr size

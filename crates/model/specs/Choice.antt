@@ -1,6 +1,6 @@
 -- Choices by a test, connectives, and tables of a function's values.
 -- Assumes nothing.
-use Prim.Native.Nat.{ℕ, zero, suc}
+use Prim.Native.Nat.{ℕ, zero, suc, _/_}
 use mathlib.Core.Bool.{Bool, true, false}
 use mathlib.Core.List.{List, [], _∷_, _++_}
 use lib.Dec.{eqb}
@@ -55,3 +55,12 @@ tabulate f (suc n) = tabulate f n ++ (f n ∷ [])
 unfoldable pub joined : (ℕ → List ℕ) → ℕ → List ℕ
 joined f zero = []
 joined f (suc n) = joined f n ++ f n
+
+-- how often n can be halved, rounded down, before it is 0: n turns are enough
+abbrev pub halvingsWithin : ℕ → ℕ → ℕ
+halvingsWithin zero n = 0
+halvingsWithin (suc turns) zero = 0
+halvingsWithin (suc turns) (suc n) = suc (halvingsWithin turns (suc n / 2))
+
+abbrev pub halvings : ℕ → ℕ
+halvings n = halvingsWithin n n

@@ -16,7 +16,7 @@ use mathlib.Core.List.{List, [], _∷_}
 use lib.ListN.{getD, set, replicate}
 use lib.Seq.{sets}
 use lib.Dec.{eqb}
-use Rattle.model.specs.Choice.{tabulate}
+use Rattle.model.specs.Choice.{tabulate, halvings}
 use Rattle.model.specs.declared.Removal.{Removal}
 
 -- The counts and limits of 01.
@@ -40,6 +40,10 @@ placeCount = channelCount * serviceCount
 -- "Blocks: 0 to 16"
 abbrev pub mostBlocks : ℕ
 mostBlocks = 16
+
+-- the most blocks that one search looks at (specs/Search.antt)
+abbrev pub mostLooked : ℕ
+mostLooked = halvings mostBlocks
 
 -- "1 to 16 records"
 abbrev pub mostRecords : ℕ

@@ -8,6 +8,7 @@ use lib.ListN.{length}
 use lib.Seq.{sets}
 use borrow.Author.Tests.{eq-eqb, ne-eqb}
 use Rattle.wire.specs.BigEndian.{bytesOf}
+use Rattle.wire.proofs.Laws.{sets-whole}
 use Rattle.model.specs.Choice.{pick, joined}
 use Rattle.model.specs.declared.Event.{Event}
 use Rattle.model.specs.Layout.{mostRecords, outputBytes, queryBytes, replyHeaderBytes}
@@ -18,7 +19,7 @@ use Rattle.model.specs.Handler.{Handles}
 use Rattle.model.proofs.Choice.{joined-length}
 use Rattle.model.proofs.Replies.{query-length}
 use Rattle.records.specs.Header.{memoryHeader}
-use Rattle.records.proofs.Parts.{sets-whole, reply-length, reply-stored}
+use Rattle.records.proofs.Parts.{reply-length, reply-stored}
 
 -- three fields of a part from byte 16 on
 module _ (l : List ℕ) (bytes first : ℕ) {l₁ l₂ l₃ : List ℕ} where

@@ -1,15 +1,15 @@
 -- The parts of a memory reply: a record in its part, the records so far, and the whole reply.
 -- Assumes nothing.
 use mathlib.Core.Path.{_≡_, sym, ap, _∙_}
-use mathlib.Core.List.{List, _++_, append-assoc, append-nil}
+use mathlib.Core.List.{List, _++_, append-assoc}
 use Prim.Native.Nat.{ℕ, _+_, _-_, _*_, _%_, _≤_}
 use native.Mathlib.Nat.{zero-add}
 use native.Mathlib.Numerals.{add-one}
 use native.Mathlib.Omega.{arith}
-use lib.ListN.{length, getD, take, drop, length-append, drop-of-length-le}
+use lib.ListN.{length, getD, take, drop, length-append}
 use lib.Seq.{sets, sets-eq, drop-drop}
 use Rattle.wire.specs.BigEndian.{bytesOf, written}
-use Rattle.wire.proofs.Laws.{length-bytes, bytes-low, sets-append, sets-written}
+use Rattle.wire.proofs.Laws.{length-bytes, bytes-low, sets-append, sets-written, sets-whole}
 use Rattle.model.specs.Choice.{joined}
 use Rattle.model.specs.Layout.{replyHeaderBytes, resultBytes, dsHeaderBytes, mostRecords, outputBytes}
 use Rattle.model.specs.Messages.{dsMessage, dsData}
@@ -18,13 +18,6 @@ use Rattle.model.proofs.Choice.{joined-length}
 use Rattle.model.proofs.Replies.{memory-length, result-length}
 use Rattle.records.specs.Header.{memoryHeader}
 use Rattle.records.specs.Results.{ResultsWritten}
-
--- a run of stores as long as the list replaces it
-pub sets-whole : (v l : List ℕ) → length l ≡ length v → sets l 0 v ≡ v
-unfolding written
-sets-whole v l h =
-    let past : length l ≤ length v = omega arith in
-    sets-written v l (omega arith) ∙ ap (λ (t : List ℕ). v ++ t) (drop-of-length-le l past) ∙ append-nil v
 
 -- four bytes of a remainder are those of the number
 pub low-bytes : (v at : ℕ) (l : List ℕ) {l′ : List ℕ} → l′ ≡ sets l at (bytesOf 4 (v % 4294967296)) → l′ ≡ sets l at (bytesOf 4 v)

@@ -15,7 +15,8 @@ ghost use lib.Seq.{sets};
 ghost use Rattle.wire.specs.BigEndian.{bytesOf};
 ghost use Rattle.model.specs.Choice.{joined};
 ghost use Rattle.model.specs.declared.Found.the-variants.{At};
-ghost use Rattle.model.specs.Layout.{blocksOf, mostBlocks, mostRecords, outputBytes, replyHeaderBytes, resultBytes};
+ghost use Rattle.model.specs.Layout.{mostBlocks, mostRecords, outputBytes, replyHeaderBytes, resultBytes};
+ghost use Rattle.model.specs.Search.{BlocksInOrder};
 ghost use Rattle.model.specs.Memory.{statusOf, resultRecord, statusAt, memoryReply};
 ghost use Rattle.wire.specs.BigEndian.{written};
 ghost use Rattle.records.specs.Header.{memoryHeader};
@@ -37,7 +38,7 @@ fn status_at(state: &State, i: usize) -> u64
 
 // "status after the request (0 unknown, 1 unconfigured, 2 configured)"
 pub fn status_of(state: &State, addr: u64, size: u64) -> u64
-    requires { ⌜ blocksOf (now state) ≤ mostBlocks ⌝ }
+    requires { ⌜ BlocksInOrder (now state) ⌝ }
     ensures { λ r. ⌜ r ≡ statusOf (now (state .entry)) addr size ⌝ }
 {
     let found = blocks::named_block(state, addr, size);
@@ -81,7 +82,7 @@ pub fn put_result_records(
     result: [u64; MOST_RECORDS],
     n: usize,
 )
-    requires { ⌜ (n ≤ mostRecords) × (blocksOf (now state) ≤ mostBlocks) × (outputBytes ≤ length (now out)) ⌝ }
+    requires { ⌜ (n ≤ mostRecords) × BlocksInOrder (now state) × (outputBytes ≤ length (now out)) ⌝ }
     ensures { λ _. ⌜ now (out .exit) ≡ sets (now (out .entry)) replyHeaderBytes (joined (λ i. resultRecord (now (state .entry)) (getD address i 0) (getD size i 0) (getD result i 0)) n) ⌝ }
 {
     let mut i: usize = 0;
@@ -113,7 +114,7 @@ pub fn put_results(
     n: usize,
     out: &mut [u8],
 ) -> usize
-    requires { ⌜ (blocksOf (now state) ≤ mostBlocks) × (n ≤ mostRecords) × (outputBytes ≤ length (now out)) ⌝ }
+    requires { ⌜ BlocksInOrder (now state) × (n ≤ mostRecords) × (outputBytes ≤ length (now out)) ⌝ }
     ensures { λ r. ⌜ ResultsWritten (now (state .entry)) handle request address size result n (now (out .entry)) r (now (out .exit)) ⌝ }
 {
     put_header(out, handle, DR_MEM_OK, n as u32, request, n * RESULT_BYTES);

@@ -23,6 +23,7 @@ use Rattle.model.specs.Work.{lateReply, addrNow, allSettled, blockNow, collecti
 use Rattle.model.specs.Handler.{Handles, HandlesSilently, HandlesStep}
 use Rattle.model.proofs.Choice.{on-pick, or-false, tabulate-at, joined-same}
 use Rattle.model.proofs.Rules.{RemovalFacts, sound-facts, sound-block}
+use Rattle.model.proofs.Search.{sound-in-order}
 use Rattle.model.proofs.Sounds.{named-less}
 use Rattle.model.proofs.Handlers.{silent-handles}
 use Rattle.records.specs.Results.{resultsReply, ResultsWritten}
@@ -71,7 +72,7 @@ module _ (s : List ℕ) (m : Removal) (loaded : m ≡ removalOf s) (good : sound
   facts = rw loaded (sound-facts s good .removal out .facts)
 
   pub fits : Fits s m
-  fits = record { blocks = sound-facts s good .base .few; records = facts .few }
+  fits = record { blocks = sound-in-order s good; records = facts .few }
 
   pub can-work : (m .cancelled or allSettled m) ≡ false → CanWork s m
   can-work e = record {

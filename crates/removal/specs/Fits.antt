@@ -10,7 +10,8 @@ use lib.Dec.{eqb, ltb}
 use Rattle.model.specs.Choice.{pick}
 use Rattle.model.specs.declared.Event.{Event}
 use Rattle.model.specs.declared.Removal.{Removal}
-use Rattle.model.specs.Layout.{channelCount, mostBlocks, mostRecords, blockAt, blocksOf}
+use Rattle.model.specs.Layout.{channelCount, mostBlocks, mostRecords, blockAt}
+use Rattle.model.specs.Search.{BlocksInOrder}
 use Rattle.model.specs.State.{collectedSound, removalRoom, sound}
 use Rattle.model.specs.Memory.{DR-MEM-RES-FAILURE, DR-MEM-RES-CANCELLED}
 use Rattle.model.specs.Work.{WorkStep}
@@ -22,9 +23,9 @@ resultBy position result cancelled code i =
     pick (ltb i position) (getD result i 0)
     (pick cancelled DR-MEM-RES-CANCELLED (pick (eqb i position) code DR-MEM-RES-FAILURE))
 
--- the blocks and the records are not too many
+-- the blocks can be searched, and the records are not too many
 pub record Fits (s : List ℕ) (m : Removal) : Type 0 where
-  pub blocks : blocksOf s ≤ mostBlocks
+  pub blocks : BlocksInOrder s
   pub records : m .count ≤ mostRecords
 
 -- a sound removal that is not over

@@ -23,7 +23,8 @@ ghost use lib.Dec.{eqb, ltb};
 ghost use Rattle.wire.specs.BigEndian.{written};
 ghost use Rattle.model.specs.declared.Found.the-variants.{At};
 ghost use Rattle.model.specs.Choice.{pick, _or_, tabulate};
-ghost use Rattle.model.specs.Layout.{blocksOf, blockAt, channelCount, isSet, mostBlocks, mostRecords, outputBytes, outstandingOf, withRemoval};
+ghost use Rattle.model.specs.Layout.{blockAt, channelCount, isSet, mostBlocks, mostRecords, outputBytes, outstandingOf, withRemoval};
+ghost use Rattle.model.specs.Search.{BlocksInOrder};
 ghost use Rattle.model.specs.State.{sound};
 ghost use Rattle.model.specs.Journal.{settledEvent};
 ghost use Rattle.model.specs.Messages.{effect};
@@ -34,7 +35,7 @@ ghost use Rattle.removal.specs.Fits.{resultBy, Fits, CanWork, GoesOn, St
 
 // The block that the record at the position names, if there is one.
 fn block_now(state: &State, m: Removal) -> Found
-    requires { ⌜ (blocksOf (now state) ≤ mostBlocks) × (m .position < mostRecords) ⌝ }
+    requires { ⌜ BlocksInOrder (now state) × (m .position < mostRecords) ⌝ }
     ensures { λ r. ⌜ r ≡ blockNow (now (state .entry)) m ⌝ }
 {
     let at = m.position as usize;

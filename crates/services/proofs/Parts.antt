@@ -1,22 +1,15 @@
 -- The parts of a message, stored one after the other, are the message at the start of the output.
 -- Assumes nothing.
 use mathlib.Core.Path.{_≡_, sym}
-use mathlib.Core.List.{List, [], _∷_, _++_}
-use Prim.Native.Nat.{ℕ, _+_, _<_, _≤_}
-use native.Mathlib.Numerals.{add-one}
+use mathlib.Core.List.{List, _++_}
+use Prim.Native.Nat.{ℕ, _+_, _≤_}
 use native.Mathlib.Omega.{arith}
-use lib.ListN.{length, getD, take, set, length-append}
-use lib.Seq.{sets, length-take-le, take-suc}
+use lib.ListN.{length, length-append}
+use lib.Seq.{sets}
 use Rattle.wire.specs.BigEndian.{bytesOf}
-use Rattle.wire.proofs.Laws.{length-bytes, sets-append, sets-written}
+use Rattle.wire.proofs.Laws.{length-bytes, sets-written}
 use Rattle.model.specs.Messages.{dsMessage}
 use Rattle.services.specs.Output.{Wrote}
-
--- one more byte of a list that is stored from at on
-pub one-byte-more : (l id : List ℕ) (at i : ℕ) → i < length id → set (sets l at (take i id)) (at + i) (getD id i 0) ≡ sets l at (take (i + 1) id)
-one-byte-more l id at i below =
-    let passed : length (take i id) ≡ i = length-take-le i id (omega arith) in
-    rw (add-one, take-suc id i 0 below, ← sets-append l (take i id) (getD id i 0 ∷ []) at, passed)
 
 -- a message's header and payload, stored from 0 on, are the message at the start of the output
 pub message-stored : (type n : ℕ) (payload l : List ℕ) {r : ℕ} {l′ : List ℕ} → n ≡ length payload → r ≡ 8 + n → r ≤ length l

@@ -1,17 +1,17 @@
 -- Laws of big-endian fields, each over the width, and of stores one after the other.
 -- Assumes nothing.
 use mathlib.Core.Path.{_≡_, refl, sym, ap, ap₂, _∙_, subst}
-use mathlib.Core.List.{List, [], _∷_, _++_}
+use mathlib.Core.List.{List, [], _∷_, _++_, append-nil}
 use Prim.Native.Nat.{ℕ, zero, suc, _+_, _*_, _/_, _%_, _^_, _<_, _≤_}
 use native.Mathlib.Nat.{add-zero, zero-add, add-suc, suc-add, add-assoc, add-comm, add-mul, mul-assoc}
 use native.Mathlib.Nat.{pow-suc, pow-succ', zero-lt-suc, one-le-pow, mod-lt, mod-mod, mod-one, mod-eq-of-lt}
 use native.Mathlib.Nat.{div-add-mod', div-div-eq-div-mul, mul-add-div-right, mul-add-mod-self-right}
-use native.Mathlib.Numerals.{one-add}
+use native.Mathlib.Numerals.{one-add, add-one}
 use native.Mathlib.Omega.{arith}
 use lib.Arith.{mod-mul, digits-lt}
-use lib.ListN.{length, getD, set, drop}
+use lib.ListN.{length, getD, set, take, drop, drop-of-length-le}
 use lib.Pow.{pow-add}
-use lib.Seq.{sets, sets-eq, getD-append-add}
+use lib.Seq.{sets, sets-eq, getD-append-add, length-take-le, take-suc}
 use Rattle.wire.specs.BigEndian.{byteAt, numberAt, bytesOf, written}
 
 power-pos : (n : ℕ) → 0 < 256 ^ n
@@ -113,12 +113,27 @@ sets-append l (x ∷ a) b i =
     ap (λ (k : ℕ). sets (sets (set l i x) (suc i) a) k b) (add-suc i (length a) ∙ sym (suc-add i (length a)))
     ∙ sets-append (set l i x) a b (suc i)
 
+-- one store more of a run
+pub sets-more : (l v : List ℕ) (at i : ℕ) {l₁ : List ℕ} → i < length v → l₁ ≡ sets l at (take i v) → set l₁ (at + i) (getD v i 0) ≡ sets l at (take (i + 1) v)
+sets-more l v at i h e =
+    let n = length-take-le i v (omega arith) in
+    rw (e, add-one i, take-suc v i 0 h)
+    (ap (λ (k : ℕ). set (sets l at (take i v)) (at + k) (getD v i 0)) (sym n)
+    ∙ sets-append l (take i v) (getD v i 0 ∷ []) at)
+
 -- a run of stores from 0 is a reply at the start
 pub sets-written : (msg l : List ℕ) → length msg ≤ length l → sets l 0 msg ≡ written msg l
 unfolding written
 sets-written msg l h =
     sets-eq msg l 0 (subst (λ (k : ℕ). k ≤ length l) (sym (zero-add (length msg))) h)
     ∙ ap (λ (k : ℕ). msg ++ drop k l) (zero-add (length msg))
+
+-- a run of stores as long as the list replaces it
+pub sets-whole : (v l : List ℕ) → length l ≡ length v → sets l 0 v ≡ v
+unfolding written
+sets-whole v l h =
+    let past : length l ≤ length v = omega arith in
+    sets-written v l (omega arith) ∙ ap (λ (t : List ℕ). v ++ t) (drop-of-length-le l past) ∙ append-nil v
 
 -- the bytes of a number, stored as those of its high part h and then those of its low part
 pub sets-parts : (l : List ℕ) (at a b v : ℕ) {h : ℕ} {l₁ l₂ : List ℕ} → h ≡ v / 256 ^ b

@@ -60,16 +60,25 @@ pub fn put32(out: &mut [u8], at: usize, v: u32)
     out[at + 3] = (v % 256) as u8;
 }
 
-// Writes the eight bytes of `v` from `at` on, as two halves, and no other byte. The test always holds: it keeps the stores of
-// one field apart from those of the next, so that the eight become one store.
+// Copies eight bytes to `at` and on, and no other byte: one load and one store, whatever is written beside them.
+fn put_eight(out: &mut [u8], at: usize, bytes: [u8; 8])
+    requires { ⌜ at + 8 ≤ length (now out) ⌝ }
+    ensures { λ _. ⌜ now (out .exit) ≡ sets (now (out .entry)) at bytes ⌝ }
+{
+    let mut i: usize = 0;
+    while i < 8 {
+        out[at + i] = bytes[i];
+        i += 1;
+    }
+}
+
+// Writes the eight bytes of `v` from `at` on, and no other byte. They are made by halves in an array, which becomes a register.
 pub fn put64(out: &mut [u8], at: usize, v: u64)
     requires { ⌜ at + 8 ≤ length (now out) ⌝ }
     ensures { λ _. ⌜ now (out .exit) ≡ sets (now (out .entry)) at (bytesOf 8 v) ⌝ }
 {
-    let high = (v / 4294967296) as u32;
-    let low = (v % 4294967296) as u32;
-    if at < out.len() {
-        put32(out, at, high);
-        put32(out, at + 4, low);
-    }
+    let mut bytes = [0u8; 8];
+    put32(&mut bytes, 0, (v / 4294967296) as u32);
+    put32(&mut bytes, 4, (v % 4294967296) as u32);
+    put_eight(out, at, bytes);
 }

@@ -1,10 +1,12 @@
 -- `configuration::configure_all` meets its contract: the state, the mask, the failure and the results are those of the records passed.
 -- Assumes nothing.
 use native.Mathlib.Omega.{arith}
+use borrow.Author.Needs.{needs}
 use Prim.Native.Nat.{_≤_, _-_, _*_}
-use mathlib.Core.Path.{_≡_, refl, _∙_}
+use mathlib.Core.Path.{_≡_, refl}
 use lib.ListN.{length, take, length-set}
-use Rattle.model.specs.Layout.{blocksOf, mostRecords}
+use Rattle.model.specs.Layout.{mostRecords}
+use Rattle.model.specs.Search.{BlocksInOrder}
 use Rattle.model.specs.Memory.{configuredBy}
 use Rattle.configuration.specs.Progress.{bitsEnd, progress}
 use Rattle.configuration.proofs.Laws.{progress-more, passes}
@@ -12,14 +14,14 @@ use Rattle.configuration.proofs.configure_all.Statement.{statement}
 use Rattle.configuration.proofs.configure_all.Tie as tie
 
 abbrev Inv-loop : tie.InvT-loop
-Inv-loop state₀ b n mask₀ failed₀ result₀ i₀ state mask failed result i = (i ≤ n) × (mask ≤ i * bitsEnd) × (blocksOf state ≡ blocksOf state₀) × (length result ≡ mostRecords) × (progress state mask failed (take i result) ≡ configuredBy state₀ b i)
+Inv-loop state₀ b n mask₀ failed₀ result₀ i₀ state mask failed result i = (i ≤ n) × (mask ≤ i * bitsEnd) × BlocksInOrder state × (length result ≡ mostRecords) × (progress state mask failed (take i result) ≡ configuredBy state₀ b i)
 
 abbrev μ-loop : tie.MeasureT-loop
 μ-loop state₀ b n mask₀ failed₀ result₀ i₀ state mask failed result i = n - i
 
 loop-holds : tie.Need-loop-holds Inv-loop μ-loop
 unfolding configuredBy
-loop-holds c = (omega arith, omega arith, refl, refl, refl)
+loop-holds c = (omega arith, omega arith, c .before .pre .2, refl, refl)
 
 address-requires : tie.Need-address-requires Inv-loop μ-loop
 address-requires c κs = omega arith
@@ -28,7 +30,7 @@ size-requires : tie.Need-size-requires Inv-loop μ-loop
 size-requires c κs = omega arith
 
 configure-one-requires : tie.Need-configure-one-requires Inv-loop μ-loop
-configure-one-requires c κs = omega arith
+configure-one-requires c κs = search needs
 
 add-mask : tie.Need-add-mask Inv-loop μ-loop
 add-mask c = omega (arith, c .before .configure-one .ensures .small)
@@ -49,7 +51,7 @@ loop-again : tie.Need-loop-again Inv-loop μ-loop
 loop-again c =
     let inv = c .before .before .before .before .before .before .before .loop .inv in
     let step = c .before .before .configure-one .ensures in
-    (omega arith, omega (arith, step .small), step .blocks ∙ inv .2, rw length-set (inv .3), progress-more _ _ _ _ _ _ _ _ _ _ _ (inv .4) (omega arith) step (c .before .before .before .before .address .ensures) (c .before .before .before .size .ensures))
+    (omega arith, omega (arith, step .small), step .blocks, rw length-set (inv .3), progress-more _ _ _ _ _ _ _ _ _ _ _ (inv .4) (omega arith) step (c .before .before .before .before .address .ensures) (c .before .before .before .size .ensures))
 
 returns : tie.Need-returns Inv-loop μ-loop
 returns c =

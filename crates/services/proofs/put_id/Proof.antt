@@ -6,8 +6,8 @@ use native.Mathlib.Omega.{arith}
 use lib.ListN.{length, take, length-set}
 use lib.Seq.{sets}
 use borrow.Author.Needs.{needs}
+use Rattle.wire.proofs.Laws.{sets-more}
 use Rattle.services.proofs.Rule.{id-there}
-use Rattle.services.proofs.Parts.{one-byte-more}
 use Rattle.services.proofs.put_id.Statement.{statement}
 use Rattle.services.proofs.put_id.Tie as tie
 
@@ -41,7 +41,7 @@ loop-again c =
     let start = c .before .before .before in
     let there = id-there (start .pre .0) in
     let below : c .before .loop .i < length (start .args .row .id) = omega arith in
-    (omega arith, rw length-set (inv .1), rw (inv .2) (one-byte-more _ (start .args .row .id) _ _ below))
+    (omega arith, rw length-set (inv .1), sets-more _ (start .args .row .id) _ _ below (inv .2))
 
 same-length : tie.Need-same-length Inv-loop μ-loop
 same-length c = c .before .loop .inv .1

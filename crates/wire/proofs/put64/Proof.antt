@@ -1,48 +1,58 @@
--- `wire::put64` meets its contract, by the law of bytes stored in two parts.
+-- `wire::put64` meets its contract: the bytes made by halves are those of the number, and are stored.
 -- Assumes nothing.
-use mathlib.Core.Path.{refl}
-use native.Mathlib.Omega.{arith}
+use mathlib.Core.Path.{refl, sym, ap, _∙_}
+use lib.ListN.{replicate}
+use lib.Seq.{sets}
+use Rattle.wire.specs.BigEndian.{bytesOf}
 use borrow.Author.Needs.{needs}
-use Rattle.wire.proofs.Laws.{sets-parts}
+use Rattle.wire.proofs.Laws.{length-bytes, sets-parts, sets-whole}
 use Rattle.wire.proofs.put64.Statement.{statement}
 use Rattle.wire.proofs.put64.Tie as tie
 
-cast-high : tie.Need-cast-high
-cast-high c = search needs
+slice-aggregate-put32 : tie.Need-slice-aggregate-put32
+slice-aggregate-put32 c = search needs
 
-cast-low : tie.Need-cast-low
-cast-low c = search needs
+cast-put32 : tie.Need-cast-put32
+cast-put32 c = search needs
 
 put32-requires : tie.Need-put32-requires
 put32-requires c κs = search needs
 
-add-put32 : tie.Need-add-put32
-add-put32 c = search needs
+slice-aggregate-put32-2 : tie.Need-slice-aggregate-put32-2
+slice-aggregate-put32-2 c = search needs
+
+cast-put32-2 : tie.Need-cast-put32-2
+cast-put32-2 c = search needs
 
 put32-requires-2 : tie.Need-put32-requires-2
 put32-requires-2 c κs = search needs
+
+put-eight-requires : tie.Need-put-eight-requires
+put-eight-requires c κs = search needs
 
 same-length : tie.Need-same-length
 same-length c = search needs
 
 returns : tie.Need-returns
 returns c =
-    let c₆ : _ = c .before .before .before .before .before .before in
-    let c₁₀ : _ = c₆ .before .before .before .before in
-    sets-parts (c₁₀ .args .out .now) _ 4 4 _ refl (c₆ .put32 .ensures) (c .before .before .put322 .ensures)
-
-returns-2 : tie.Need-returns-2
-returns-2 c = absurd (omega arith)
+    let stored = c .before .before in
+    let low = stored .before .before .before in
+    let high = low .before .before .before in
+    stored .put-eight .ensures
+    ∙ ap (sets _ _)
+    (sets-parts (replicate 8 0) 0 4 4 _ refl (high .put32 .ensures) (low .put322 .ensures)
+    ∙ sets-whole (bytesOf 8 _) (replicate 8 0) (sym (length-bytes 8 _)))
 
 pub put64-spec : {M : Type 1} → statement M
 put64-spec =
     tie.close
     (tie.spec
-    cast-high
-    cast-low
+    slice-aggregate-put32
+    cast-put32
     put32-requires
-    add-put32
+    slice-aggregate-put32-2
+    cast-put32-2
     put32-requires-2
+    put-eight-requires
     same-length
-    returns
-    returns-2)
+    returns)
