@@ -247,7 +247,7 @@ fn dispatch(
 }
 
 // What the memory service does with the bytes of a request: ERROR for its form, or for a number that does not rise, before BLOCKED is
-// considered; one that rises is the highest now.
+// considered; one of right form that rises is the highest now.
 pub fn answer(state: &mut State, channel: u64, handle: u64, b: &[u8], out: &mut [u8]) -> Handled
     requires { ⌜ (sound (now state) ≡ true) × (outputBytes ≤ length (now out)) × (channel < channelCount) ⌝ }
     ensures { λ r. ⌜ Handles (answeredMemory (now (state .entry)) channel handle (now (b .entry))) (now (out .entry)) (r .length) (r .event) (now (state .exit)) (now (out .exit)) ⌝ }

@@ -8,7 +8,7 @@
 --   1 if a removal is outstanding, else 0; 1 if it is cancelled, else 0
 --   its channel, handle, request number, count of records, position, pages collected
 --   the records' addresses; their sizes; the settled records' results: 0 OK, 4 NOWORK
---   channel c: 0 if no memory request of right form came on its registration of service 0, else the next word is the highest number of those
+--   channel c: 0 if no memory request of right form came since service 0 was last registered there, else the next word is the highest number of those
 -- Assumes nothing.
 use Prim.Native.Nat.{ℕ, _+_, _-_, _*_}
 use mathlib.Core.Bool.{Bool, true, false, not}

@@ -300,7 +300,7 @@ unfoldable pub rises : List ℕ → ℕ → ℕ → Bool
 rises s c number = not (isSet (numberedAt s c)) or ltb (highestAt s c) number
 
 -- What the memory service does with the bytes b under a handle of channel c: "a memory request whose number is not above all earlier ones of right form is
--- answered ERROR with its number, before BLOCKED is considered"; one that rises is the highest now.
+-- answered ERROR with its number, before BLOCKED is considered"; one of right form that rises is the highest now. (So `requested` is given no `Malformed`.)
 unfoldable pub answeredMemory : List ℕ → ℕ → ℕ → List ℕ → Effect
 answeredMemory s c handle b =
     pick (rightForm (requestOf b) and rises s c (requestNumber b))
