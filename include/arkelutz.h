@@ -18,7 +18,7 @@
 extern "C" {
 #endif
 
-#define ARKELUTZ_STATE_WORDS 191
+#define ARKELUTZ_STATE_WORDS 199
 #define ARKELUTZ_JOURNAL_WORDS 128 /* every call but setup and show asks for a journal of just this length */
 #define ARKELUTZ_OUTPUT_BYTES 672  /* and, but for drain, for an output of this length or more */
 

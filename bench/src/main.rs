@@ -61,14 +61,14 @@ fn ds_message(ds_type: u32, payload: &[u8]) -> Vec<u8> {
     message
 }
 
-/// A memory request of `count` records over `blocks` blocks: for every
+/// A memory request, with its number, of `count` records over `blocks` blocks: for every
 /// `blocks / count`-th block; or for each block, and then for addresses in
 /// them, which name no block.
-fn request(memory_type: u32, count: u64, blocks: u64, handle: u64) -> Vec<u8> {
+fn request(memory_type: u32, number: u64, count: u64, blocks: u64, handle: u64) -> Vec<u8> {
     let mut payload = handle.to_be_bytes().to_vec();
     payload.extend(memory_type.to_be_bytes());
     payload.extend((count as u32).to_be_bytes());
-    payload.extend(7u64.to_be_bytes());
+    payload.extend(number.to_be_bytes());
     for record in 0..count {
         let (block, pages) = if count <= blocks {
             ((record + 1) * (blocks / count) - 1, 0)
@@ -182,19 +182,20 @@ impl Case {
         let mut host = Host::<A>::new(self.blocks, self.channels);
         match self.prepare {
             Prepare::Nothing => {}
-            Prepare::Removal => host.receive(0, &request(UNCONFIGURE, 1, self.blocks, 2)),
+            Prepare::Removal => host.receive(0, &request(UNCONFIGURE, 1, 1, self.blocks, 2)),
             Prepare::Full => {
-                for _ in 0..64 {
-                    host.receive(0, &request(QUERY, 1, self.blocks, 2));
+                for number in 0..64 {
+                    host.receive(0, &request(QUERY, number, 1, self.blocks, 2));
                 }
             }
         }
         host
     }
 
-    /// One batch of calls. A drain of all entries has a state of its own each time.
-    fn batch<A: Agent>(&self, host: &mut Host<A>, query: &[u8], copies: &mut [A::State; BATCH]) {
-        for copy in copies {
+    /// One batch of calls: queries with numbers that rise. A drain of all
+    /// entries has a state of its own each time.
+    fn batch<A: Agent>(&self, host: &mut Host<A>, queries: &[Vec<u8>], copies: &mut [A::State; BATCH]) {
+        for (copy, query) in copies.iter_mut().zip(queries) {
             match self.calls {
                 Calls::Query(_) => host.receive(0, query),
                 Calls::Work => host.work(),
@@ -208,11 +209,11 @@ impl Case {
     }
 
     /// Times a batch, and gives the least nanoseconds a call so far.
-    fn round<A: Agent>(&self, host: &mut Host<A>, query: &[u8], least: f64) -> f64 {
+    fn round<A: Agent>(&self, host: &mut Host<A>, queries: &[Vec<u8>], least: f64) -> f64 {
         let saved = host.state;
         let mut copies = [saved; BATCH];
         let begin = Instant::now();
-        self.batch(host, query, &mut copies);
+        self.batch(host, queries, &mut copies);
         let nanoseconds = begin.elapsed().as_nanos() as f64 / BATCH as f64;
         host.state = saved;
         least.min(nanoseconds)
@@ -223,13 +224,14 @@ impl Case {
             Calls::Query(records) => records,
             _ => 1,
         };
-        let query = request(QUERY, records, self.blocks, 2);
+        let query = |number| request(QUERY, number, records, self.blocks, 2);
+        let queries: Vec<_> = (0..BATCH as u64).map(query).collect();
         let mut ours = self.host::<Proved>();
         let mut theirs = self.host::<Independent>();
         let (mut least, mut least_theirs) = (f64::MAX, f64::MAX);
         for _ in 0..ROUNDS {
-            least = self.round(&mut ours, &query, least);
-            least_theirs = self.round(&mut theirs, &query, least_theirs);
+            least = self.round(&mut ours, &queries, least);
+            least_theirs = self.round(&mut theirs, &queries, least_theirs);
         }
         assert_eq!(
             ours.seen(),

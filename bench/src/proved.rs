@@ -2,7 +2,7 @@
 //! against crates/exports but the comparisons of results in this package.
 
 /// The agent's state.
-pub type Words = [u64; 191];
+pub type Words = [u64; 199];
 
 #[repr(C)]
 pub struct Started {

@@ -1,14 +1,17 @@
 //! What a list of calls reached, counted from the input and a host's output.
 
+mod numbers;
+
 use crate::comparing::Tally;
 use crate::lines::{Call, Line};
 use crate::memory::{self, PAIR_BYTES, QUERY_BYTES, RECORDS_START, RESULT_BYTES};
 use crate::wire::{self, get32, get64};
+use numbers::Numbers;
 use std::collections::BTreeMap;
 use std::fmt::{self, Display, Formatter};
 
 /// The counts that any long list of calls must reach, as groups of members.
-const MUST_REACH: [(&str, &str); 27] = [
+const MUST_REACH: [(&str, &str); 30] = [
     ("call setup", "accepted, refused"),
     ("call receive", "accepted, refused"),
     ("call offer", "accepted, refused"),
@@ -66,6 +69,9 @@ const MUST_REACH: [(&str, &str); 27] = [
         "none permanent, part permanent, wholly permanent, size 0",
     ),
     ("STATUS reply", "idle, open, total 0"),
+    ("number refused", numbers::REFUSED),
+    ("number first", numbers::FIRST),
+    ("number accepted", numbers::ACCEPTED),
 ];
 
 /// The names of the counts that any long list of calls must reach.
@@ -84,6 +90,7 @@ fn must_reach() -> Vec<String> {
     for name in REQUESTS {
         let answers = ["OK", "ERROR", "NACK"];
         names.extend(answers.map(|answer| format!("memory received {name} -> {answer}")));
+        names.extend(["equal", "lower"].map(|how| format!("number refused {name} {how}")));
     }
     names
 }
@@ -145,6 +152,7 @@ fn result_name(result: u32) -> &'static str {
 pub struct Counts {
     listed: BTreeMap<String, u64>,
     made: Option<[u64; 9]>,
+    numbers: Numbers,
 }
 
 impl Default for Counts {
@@ -152,6 +160,7 @@ impl Default for Counts {
         Counts {
             listed: must_reach().into_iter().map(|name| (name, 0)).collect(),
             made: None,
+            numbers: Numbers::default(),
         }
     }
 }
@@ -162,7 +171,12 @@ impl Tally for Counts {
         match Line::read(line) {
             Line::PassedOver => self.add("line passed over".into()),
             Line::Bad => self.add("line bad".into()),
-            Line::Call(call) => self.call(&call, &output),
+            Line::Call(call) => {
+                self.call(&call, &output);
+                for name in self.numbers.call(&call) {
+                    self.add(name);
+                }
+            }
         }
     }
 

@@ -146,7 +146,7 @@ impl Case {
     }
 
     /// What differs between the two, or from what 01 says of refusals and of
-    /// show; none if nothing does. A refused call must leave all 191 words as
+    /// show; none if nothing does. A refused call must leave all 199 words as
     /// they were; after an accepted one those without a meaning count as 0.
     fn difference(&self, ours: &Outcome<Words>, theirs: &Outcome<State>) -> Option<&'static str> {
         let refused = ours.answer.refusal != 0;

@@ -18,7 +18,15 @@ pub fn sound(random: &mut Random) -> State {
     state.held = held.min(state.last);
     channels(random, &mut state);
     state.removal = random.once_in(2).then(|| removal(random, &state));
+    state.highest.fill_with(|| highest(random));
     state
+}
+
+/// A channel's highest request number, or none yet.
+fn highest(random: &mut Random) -> Option<u64> {
+    let any = random.next();
+    let number = random.pick(&[0, 8, any, any, any >> 32, u64::MAX - 1, u64::MAX]);
+    (!random.once_in(3)).then_some(number)
 }
 
 fn last(random: &mut Random) -> u64 {

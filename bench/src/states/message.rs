@@ -104,8 +104,11 @@ const BARE: [u32; 2] = [memory::UNCONF_STATUS, memory::CANCEL];
 
 /// A memory request; one in six is spoilt.
 fn memory_message(random: &mut Random, state: &State) -> Vec<u8> {
-    let number = random.next();
-    let number = random.pick(&[0, 9, number, u64::MAX]);
+    let any = random.next();
+    let highest = random.pick(&state.highest).unwrap_or(any);
+    let (below, above) = (highest.wrapping_sub(1), highest.wrapping_add(1));
+    let halves = highest ^ 1 << 32;
+    let number = random.pick(&[0, 9, any, any, u64::MAX, highest, below, above, above, halves]);
     let bad = random.once_in(6);
     if random.once_in(3) {
         let argument = u32::from(bad && random.once_in(2));
@@ -125,16 +128,10 @@ fn memory_message(random: &mut Random, state: &State) -> Vec<u8> {
     if bad {
         return spoilt_request(random, build::request(memory_type, number, &pairs));
     }
-    let mut distinct = Vec::new();
-    for pair in pairs {
-        if !distinct.contains(&pair) {
-            distinct.push(pair);
-        }
-    }
-    build::request(memory_type, number, &distinct)
+    build::request(memory_type, number, &pairs)
 }
 
-/// A request whose pairs may stand twice, spoilt in one more way or in none.
+/// A request spoilt in one way, or in none.
 fn spoilt_request(random: &mut Random, mut request: Vec<u8>) -> Vec<u8> {
     let length = request.len() as u64;
     match random.below(5) {

@@ -22,7 +22,9 @@ const POSITION: usize = COUNT + 1;
 const ADDRESS: usize = POSITION + 2;
 const SIZE: usize = ADDRESS + MAX_RECORDS;
 const RESULT: usize = SIZE + MAX_RECORDS;
-const END: usize = RESULT + MAX_RECORDS;
+const NUMBERED: usize = RESULT + MAX_RECORDS;
+const NUMBER_WORDS: usize = 2;
+const END: usize = NUMBERED + CHANNELS * NUMBER_WORDS;
 
 fn service_words(service: &Service) -> [u64; SERVICE_WORDS] {
     match *service {
@@ -84,7 +86,24 @@ pub fn words_of(state: &State) -> Words {
     if let Some(removal) = &state.removal {
         put_removal(&mut words, removal);
     }
+    for (number, highest) in state.highest.iter().enumerate() {
+        let at = NUMBERED + number * NUMBER_WORDS;
+        let highest = highest.map_or([0, 0], |highest| [1, highest]);
+        words[at..at + NUMBER_WORDS].copy_from_slice(&highest);
+    }
     words
+}
+
+/// The words of a channel's request numbers that say nothing: both while the
+/// memory service is not registered there, and the highest while there is none.
+fn free_of_numbers(words: &Words, channel: usize) -> Range<usize> {
+    let at = NUMBERED + channel * NUMBER_WORDS;
+    let end = at + NUMBER_WORDS;
+    match (words[SERVICE + channel * SERVICES * SERVICE_WORDS], words[at]) {
+        (2, 0) => at + 1..end,
+        (2, _) => end..end,
+        _ => at..end,
+    }
 }
 
 /// The words of a service that say nothing at its stage: an idle one's handle
@@ -100,20 +119,22 @@ fn free_of_service(words: &Words, stage: usize) -> Range<usize> {
 
 /// The words that 01 gives no meaning in this state: those of services, blocks
 /// past the count, a removal's words while none is outstanding, its records
-/// past the count, its results from the position on.
+/// past the count, its results from the position on, and those of request
+/// numbers.
 fn free(words: &Words) -> Vec<Range<usize>> {
     let taken = |word: usize, most: usize| words[word].min(most as u64) as usize;
     let stages = (SERVICE..BLOCK_COUNT).step_by(SERVICE_WORDS);
     let mut ranges: Vec<_> = stages.map(|stage| free_of_service(words, stage)).collect();
     ranges.push(BLOCK + taken(BLOCK_COUNT, MAX_BLOCKS) * BLOCK_WORDS..LAST);
+    ranges.extend((0..CHANNELS).map(|channel| free_of_numbers(words, channel)));
     if words[OUTSTANDING] == 0 {
-        ranges.push(CANCELLED..END);
+        ranges.push(CANCELLED..NUMBERED);
         return ranges;
     }
     let count = taken(COUNT, MAX_RECORDS);
     ranges.push(ADDRESS + count..SIZE);
     ranges.push(SIZE + count..RESULT);
-    ranges.push(RESULT + taken(POSITION, MAX_RECORDS)..END);
+    ranges.push(RESULT + taken(POSITION, MAX_RECORDS)..NUMBERED);
     ranges
 }
 

@@ -17,14 +17,14 @@ use Rattle.model.specs.declared.Found.the-variants.{At, Nowhere}
 use Rattle.model.specs.declared.Removal.{Removal}
 use Rattle.model.specs.declared.Request.{Request}
 use Rattle.model.specs.declared.Request.the-variants.{Configure, Unconfigure, Query, Status, Cancel, Malformed}
-use Rattle.model.specs.Layout.{removalOf, isSet, memoryHeaderBytes, mostRecords, outputBytes, outstandingOf, pairBytes, replyHeaderBytes, statusBytes, withRemoval}
+use Rattle.model.specs.Layout.{removalOf, isSet, memoryHeaderBytes, mostRecords, outputBytes, outstandingOf, pairBytes, replyHeaderBytes, statusBytes, withNumber, withRemoval}
 use Rattle.model.specs.Blocks.{namedBlock, mostPages, pageSize}
 use Rattle.model.specs.State.{sound, collectedSound, removalRoom, roomAt, roomOf}
 use Rattle.model.specs.Journal.{codeNone, answeredEvent, cancelledEvent, codeBlocked, stored, begunEvent}
 use Rattle.model.specs.Messages.{effect}
-use Rattle.model.specs.Memory.{DR-MEM-OK, DR-MEM-RES-BLOCKED, addrIn, answering, argumentOf, blocked, cancelling, hasRecords, marked, memoryReply, reporting, requestOf, resultRecord, sizeIn, statusRecord, beginning, newRemoval}
+use Rattle.model.specs.Memory.{DR-MEM-OK, DR-MEM-RES-BLOCKED, addrIn, answering, answeredMemory, answeringError, requestNumber, requested, rightForm, rises, argumentOf, blocked, cancelling, hasRecords, marked, memoryReply, reporting, requestOf, resultRecord, sizeIn, statusRecord, beginning, newRemoval}
 use Rattle.model.specs.Handler.{Handles, HandlesSilently}
-use Rattle.model.proofs.Choice.{on-pick, both, joined-same}
+use Rattle.model.proofs.Choice.{on-pick, both, and-false, and-false-right, joined-same}
 use Rattle.model.proofs.Rules.{sound-facts, sound-block}
 use Rattle.model.proofs.Sounds.{named-less}
 use Rattle.model.proofs.Replies.{memory-length, status-length}
@@ -165,3 +165,17 @@ formed-all b =
 
 pub formed : (b : List ℕ) {x : Request} (y : Request) → x ≡ requestOf b → x ≡ y → Formed b y
 formed b y e d = subst (Formed b) (sym e ∙ d) (formed-all b)
+
+-- A request's form and its number.
+module _ (s : List ℕ) (c handle : ℕ) (b : List ℕ) {request : ℕ} {asked : Request} (n : request ≡ requestNumber b) (a : asked ≡ requestOf b) where
+  pub form-error : rightForm asked ≡ false → answeringError s c handle request ≡ answeredMemory s c handle b
+  unfolding answeredMemory pick
+  form-error z = sym (rw (← n, ← a, z, and-false false (rises s c request) refl))
+
+  pub number-error : rises s c request ≡ false → answeringError s c handle request ≡ answeredMemory s c handle b
+  unfolding answeredMemory pick
+  number-error z = sym (rw (← n, ← a, z, and-false-right (rightForm asked) false refl))
+
+  pub number-risen : rightForm asked ≡ true → rises s c request ≡ true → requested (withNumber s c 1 request) c handle request b asked ≡ answeredMemory s c handle b
+  unfolding answeredMemory pick _and_
+  number-risen z w = sym (rw (← n, ← a, z, w))

@@ -12,14 +12,14 @@ use model::State;
 ghost use mathlib.Core.Path.{_≡_};
 ghost use mathlib.Core.Bool.{true};
 ghost use mathlib.Core.List.{List};
-ghost use Prim.Native.Nat.{ℕ, _+_, _*_, _≤_};
+ghost use Prim.Native.Nat.{ℕ, _+_, _*_, _≤_, _<_};
 ghost use lib.ListN.{length};
 ghost use Rattle.model.specs.declared.Request.the-variants.{Configure, Unconfigure};
-ghost use Rattle.model.specs.Layout.{memoryHeaderBytes, mostRecords, outputBytes, pairBytes, removalOf, statusBytes, withRemoval};
+ghost use Rattle.model.specs.Layout.{channelCount, memoryHeaderBytes, mostRecords, outputBytes, pairBytes, removalOf, statusBytes, withRemoval};
 ghost use Rattle.model.specs.Search.{BlocksInOrder};
 ghost use Rattle.model.specs.Blocks.{mostPages};
 ghost use Rattle.model.specs.State.{sound};
-ghost use Rattle.model.specs.Memory.{marked, answeredMemory, answeringError, beginning, blocked, cancelling, reporting, requested, statusRecord};
+ghost use Rattle.model.specs.Memory.{marked, answeredMemory, answeringError, beginning, blocked, cancelling, reporting, requestOf, requested, statusRecord};
 ghost use Rattle.model.specs.Handler.{Handles, HandlesSilently};
 
 // "ERROR 0x65, argument 0, the same req_num .., no more."
@@ -217,13 +217,19 @@ fn hear_unconfigure(
     begin(state, channel, handle, request, b, n)
 }
 
-// What the memory service does with the bytes `b` under a handle of the channel.
-pub fn answer(state: &mut State, channel: u64, handle: u64, b: &[u8], out: &mut [u8]) -> Handled
-    requires { ⌜ (sound (now state) ≡ true) × (outputBytes ≤ length (now out)) ⌝ }
-    ensures { λ r. ⌜ Handles (answeredMemory (now (state .entry)) channel handle (now (b .entry))) (now (out .entry)) (r .length) (r .event) (now (state .exit)) (now (out .exit)) ⌝ }
+// Each request by its own function.
+fn dispatch(
+    state: &mut State,
+    channel: u64,
+    handle: u64,
+    request: u64,
+    b: &[u8],
+    asked: Request,
+    out: &mut [u8],
+) -> Handled
+    requires { ⌜ (sound (now state) ≡ true) × (outputBytes ≤ length (now out)) × (asked ≡ requestOf (now b)) ⌝ }
+    ensures { λ r. ⌜ Handles (requested (now (state .entry)) channel handle request (now (b .entry)) asked) (now (out .entry)) (r .length) (r .event) (now (state .exit)) (now (out .exit)) ⌝ }
 {
-    let request = requests::number(b);
-    let asked = requests::decode(b);
     match asked {
         Request::Configure { records } => {
             hear_configure(state, channel, handle, request, b, records as usize, out)
@@ -238,4 +244,22 @@ pub fn answer(state: &mut State, channel: u64, handle: u64, b: &[u8], out: &mut 
         Request::Cancel => cancel(state, channel, handle, request, out),
         Request::Malformed => error(channel, handle, request, out),
     }
+}
+
+// What the memory service does with the bytes of a request: ERROR for its form, or for a number that does not rise, before BLOCKED is
+// considered; one of right form that rises is the highest now.
+pub fn answer(state: &mut State, channel: u64, handle: u64, b: &[u8], out: &mut [u8]) -> Handled
+    requires { ⌜ (sound (now state) ≡ true) × (outputBytes ≤ length (now out)) × (channel < channelCount) ⌝ }
+    ensures { λ r. ⌜ Handles (answeredMemory (now (state .entry)) channel handle (now (b .entry))) (now (out .entry)) (r .length) (r .event) (now (state .exit)) (now (out .exit)) ⌝ }
+{
+    let request = requests::number(b);
+    let asked = requests::decode(b);
+    if !requests::right_form(asked) {
+        return error(channel, handle, request, out);
+    }
+    if !state::rises(state, channel as usize, request) {
+        return error(channel, handle, request, out);
+    }
+    state::set_number(state, channel as usize, 1, request);
+    dispatch(state, channel, handle, request, b, asked, out)
 }

@@ -27,7 +27,8 @@ use Rattle.model.proofs.Sounds.{named-less}
 use Rattle.model.proofs.View.{shape-moves}
 use Rattle.model.proofs.Ring.{event-back}
 use Rattle.model.proofs.Turns.{SameSizes, Turn, leaves, configures, begins, marks, steps, aside, sizes-then}
-use Rattle.model.proofs.Effects.{Given, shape}
+use Rattle.model.proofs.Rules.{Given}
+use Rattle.model.proofs.Effects.{shape}
 use Rattle.model.proofs.WorkEffects.{on-step, remains}
 use Rattle.model.proofs.Steps.{Step, adds, nowork, ok, ends, step-of, turn-sizes}
 use Rattle.model.proofs.Calls.{Taken, taken}
@@ -88,7 +89,12 @@ module _ (s : List ℕ) (g : Given s) (o : isSet (outstandingOf s) ≡ true) (bu
       })
 
 -- what an effect does to the pages since, n before it
-module _ (s : List ℕ) (g : Given s) (n : ℕ) (old : outstandingOf s ≡ 1 → removalOf s .cancelled ≡ false → n ≡ removalOf s .collected) where
+-- a record settled OK
+record Taking (s : List ℕ) (n : ℕ) (e : Event) : Type 0 where
+  within : e .word < blocksOf s
+  whole : n + e .count ≡ blockAt s (e .word) .pages
+
+module _ (s : List ℕ) (n : ℕ) (old : outstandingOf s ≡ 1 → removalOf s .cancelled ≡ false → n ≡ removalOf s .collected) where
   since-step : (e : Effect) → Step s e → outstandingOf s ≡ 1 → outstandingOf (e .state) ≡ 1 → movedBy n (e .event) ≡ removalOf (e .state) .collected
   since-step e (adds i p w b r d ev) one o =
       moved-collected n (e .event) (ap (λ (v : Event). v .kind) ev)
@@ -97,22 +103,7 @@ module _ (s : List ℕ) (g : Given s) (n : ℕ) (old : outstandingOf s ≡ 1 →
   since-step e (ok i p w b other now r d ev) one o = moved-settled n (e .event) (ap (λ (v : Event). v .kind) ev) ∙ rw (r .removal) (unfold settled in refl)
   since-step e (ends b z k) one o = absurd (omega (arith, z, o))
 
-  since-turn : (e : Effect) → Turn s e → outstandingOf (e .state) ≡ 1 → removalOf (e .state) .cancelled ≡ false → movedBy n (e .event) ≡ removalOf (e .state) .collected
-  since-turn e (leaves b r a) o c =
-      moved-other n (e .event) (not-aside _ kindBegun a (omega arith) (omega arith)) (not-aside _ kindSettled a (omega arith) (omega arith)) (not-aside _ kindCollected a (omega arith) (omega arith))
-      ∙ rw (r .removal) (old (sym (r .outstanding) ∙ o) (rw (r .removal) at c))
-  since-turn e (configures b z z′ a) o c = absurd (omega (arith, z′, o))
-  since-turn e (begins m b r p q z k) o c = moved-begun n (e .event) k ∙ rw (r .removal) (sym q)
-  since-turn e (marks b r z k) o c = absurd (clash _ c (rw (r .removal) (unfold marked in refl)))
-  since-turn e (steps budget some one same) o c =
-      rw same (since-step (working s budget .effects) (step-of s g (rw one) budget) one (rw same at o))
-
-  -- a record settled OK
-  record Taking (e : Event) : Type 0 where
-    within : e .word < blocksOf s
-    whole : n + e .count ≡ blockAt s (e .word) .pages
-
-  ok-step : (e : Effect) → Step s e → outstandingOf s ≡ 1 → e .event .code ≡ DR-MEM-RES-OK → e .event .kind ≡ kindSettled → removalOf s .collected + e .event .count ≡ blockAt s (e .event .word) .pages → Taking (e .event)
+  ok-step : (e : Effect) → Step s e → outstandingOf s ≡ 1 → e .event .code ≡ DR-MEM-RES-OK → e .event .kind ≡ kindSettled → removalOf s .collected + e .event .count ≡ blockAt s (e .event .word) .pages → Taking s n (e .event)
   ok-step e (adds i p w b r d ev) one c k h = absurd (omega (arith, k, ap (λ (v : Event). v .kind) ev))
   ok-step e (nowork i w b r z ev) one c k h = absurd (omega (arith, c, ap (λ (v : Event). v .code) ev))
   ok-step e (ok i p w b other now r d ev) one c k h = record {
@@ -121,15 +112,32 @@ module _ (s : List ℕ) (g : Given s) (n : ℕ) (old : outstandingOf s ≡ 1 →
   }
   ok-step e (ends b z k′) one c k h = absurd (omega (arith, k, k′))
 
-  ok-turn : (e : Effect) → Turn s e → e .event .kind ≡ kindSettled → e .event .code ≡ DR-MEM-RES-OK → Taking (e .event)
+module _ (s : List ℕ) (n : ℕ) (old : outstandingOf s ≡ 1 → removalOf s .cancelled ≡ false → n ≡ removalOf s .collected) where
+  since-turn : (e : Effect) → Turn s e → outstandingOf (e .state) ≡ 1 → removalOf (e .state) .cancelled ≡ false → movedBy n (e .event) ≡ removalOf (e .state) .collected
+  since-turn e (leaves b r a) o c =
+      moved-other n (e .event) (not-aside _ kindBegun a (omega arith) (omega arith)) (not-aside _ kindSettled a (omega arith) (omega arith)) (not-aside _ kindCollected a (omega arith) (omega arith))
+      ∙ rw (r .removal) (old (sym (r .outstanding) ∙ o) (rw (r .removal) at c))
+  since-turn e (configures b z z′ a) o c = absurd (omega (arith, z′, o))
+  since-turn e (begins m b r p q z k) o c = moved-begun n (e .event) k ∙ rw (r .removal) (sym q)
+  since-turn e (marks b r z k) o c = absurd (clash _ c (rw (r .removal) (unfold marked in refl)))
+  since-turn e (steps t budget some h b r one same) o c =
+      rw same
+      (since-step t n (λ p q. rw (r .removal) (old (sym (r .outstanding) ∙ p) (rw (r .removal) at q))) (working t budget .effects) (step-of t h (rw one) budget) one (rw same at o))
+
+  ok-turn : (e : Effect) → Turn s e → e .event .kind ≡ kindSettled → e .event .code ≡ DR-MEM-RES-OK → Taking s n (e .event)
   ok-turn e (leaves b r a) k c = absurd (not-aside _ kindSettled a (omega arith) (omega arith) k)
   ok-turn e (configures b z z′ a) k c = absurd (not-aside _ kindSettled a (omega arith) (omega arith) k)
   ok-turn e (begins m b r p q z k′) k c = absurd (omega (arith, k, k′))
   ok-turn e (marks b r z k′) k c = absurd (omega (arith, k, k′))
-  ok-turn e (steps budget some one same) k c =
+  ok-turn e (steps t budget some h b r one same) k c =
+      let x =
+      ok-step t n (λ p q. rw (r .removal) (old (sym (r .outstanding) ∙ p) (rw (r .removal) at q))) (working t budget .effects) (step-of t h (rw one) budget) one (rw same at c) (rw same at k)
+      (paging t h (rw one) budget some .whole (rw same at k) (rw same at c)) in
       rw same
-      (ok-step (working s budget .effects) (step-of s g (rw one) budget) one (rw same at c) (rw same at k)
-      (paging s g (rw one) budget some .whole (rw same at k) (rw same at c)))
+      (record {
+        within = omega (arith, x .within, b .sizes .count);
+        whole = x .whole ∙ b .sizes .pages _ (omega (arith, x .within, b .sizes .count));
+      })
 
 -- What a list of calls keeps: the blocks' pages are those given, the pages since are those collected, and all that is settled OK adds up.
 pub record Adding (l : Lists) (u : Run) : Type 0 where
@@ -163,7 +171,7 @@ module _ (l : Lists) (b : View) (u : Run) (k : Kept b u) (q : Adding l u) where
       let x = entryOf (lastOf (u .state) + 1) (e .event) in
       let tell : told (entryOf (lastOf (u .state) + 1) (e .event)) ≡ e .event = event-back (lastOf (u .state) + 1) (e .event) (t .good .entry .range) in
       let w = shape-moves (t .good .moves) (shape (u .state) (t .given)) in
-      let c = sizes-then (u .state) (e .state) (withCounts (e .state) (lastOf (u .state) + 1) (heldOf (u .state) + 1)) (turn-sizes (u .state) (t .given) e (t .good .turn)) (counted-blocks (e .state) _ _ (w .few) .sizes) in
+      let c = sizes-then (u .state) (e .state) (withCounts (e .state) (lastOf (u .state) + 1) (heldOf (u .state) + 1)) (turn-sizes (u .state) e (t .good .turn)) (counted-blocks (e .state) _ _ (w .few) .sizes) in
       let m = counted-removal (e .state) (lastOf (u .state) + 1) (heldOf (u .state) + 1) in
       record {
         count = unfold grown in (count-then _ c);
@@ -172,12 +180,12 @@ module _ (l : Lists) (b : View) (u : Run) (k : Kept b u) (q : Adding l u) where
             rw (entries-grown b u e out k t, moved-more 0 (entries u) (entryOf (lastOf (u .state) + 1) (e .event)), tell)
             (unfold grown in
             rw (m .removal, m .outstanding)
-            (since-turn (u .state) (t .given) (movedSince 0 (entries u)) (q .since) e (t .good .turn)));
+            (since-turn (u .state) (movedSince 0 (entries u)) (q .since) e (t .good .turn)));
         added =
             rw (entries-grown b u e out k t)
             (added-more l (entries u) (entryOf (lastOf (u .state) + 1) (e .event)) (q .added)
             (λ ok.
-            let y = ok-turn (u .state) (t .given) (movedSince 0 (entries u)) (q .since) e (t .good .turn) (rw tell at (ok .isSettled)) (rw tell at (ok .isOk)) in
+            let y = ok-turn (u .state) (movedSince 0 (entries u)) (q .since) e (t .good .turn) (rw tell at (ok .isSettled)) (rw tell at (ok .isOk)) in
             record {
               listed = rw tell (omega (arith, y .within, q .count));
               pages = rw tell (y .whole ∙ q .pages (e .event .word) (y .within));

@@ -15,7 +15,8 @@ use Rattle.model.specs.Messages.{Effect}
 use Rattle.model.specs.Calls.{Action, Outcome, accepted, act, allowed, close, drain, drained, effectOf, inRange, offer, outcome, pagesOf, receive, refusalOf, refused, withdraw, work}
 use Rattle.model.proofs.Choice.{on-pick, both}
 use Rattle.model.proofs.Rules.{sound-facts}
-use Rattle.model.proofs.Effects.{Given, Good, closing-good, offering-good, withdrawing-good}
+use Rattle.model.proofs.Rules.{Given}
+use Rattle.model.proofs.Effects.{Good, closing-good, offering-good, withdrawing-good}
 use Rattle.model.proofs.WorkEffects.{working-good}
 use Rattle.model.proofs.ReceiveEffects.{receiving-good}
 use Rattle.model.specs.Layout.{channelCount, entryWords, heldOf, highestNumber, journalWords, lastOf, mostBudget, mostHeld, outputBytes, serviceCount, stateWords}

@@ -21,7 +21,8 @@ use Rattle.model.proofs.Choice.{clash, on-pick}
 use Rattle.model.proofs.View.{shape-moves}
 use Rattle.model.proofs.Sounds.{named-less}
 use Rattle.model.proofs.Turns.{flag-sizes, flag-now, flag-else}
-use Rattle.model.proofs.Effects.{Given, shape}
+use Rattle.model.proofs.Rules.{Given}
+use Rattle.model.proofs.Effects.{shape}
 use Rattle.model.proofs.MemoryEffects.{Configures, configured-all}
 
 -- the block that a pair names is configured

@@ -24,7 +24,7 @@ use Rattle.model.specs.Reading.{idle, none, servicesOf, stageOf, viewOf}
 use Rattle.model.specs.Demand3.{sameBytes, Delivers, WellFormedData, reached, replyOf, showsHandle, showsRegistered, showsService}
 use Rattle.model.proofs.Choice.{clash, on-pick, on-first, first-same, first-nowhere, both, tabulate-at}
 use Rattle.model.proofs.Rules.{Sound, live-rules}
-use Rattle.model.proofs.MemoryEffects.{on-memory}
+use Rattle.model.proofs.MemoryEffects.{on-memory, numbered}
 use Rattle.model.proofs.Calls.{Taken, taken, passed, on-act}
 use Rattle.model.proofs.Kept.{noted-is}
 use Rattle.model.specs.Layout.{channelCount, dataHeaderBytes, handleAt, lastOf, memoryService, minorAt, placeCount, placeOf, readyAt, serviceCount, stageAt, stageRegistered, stateWords}
@@ -175,14 +175,15 @@ unfolding blocked querying answeringError
 memory-of s c h b =
     on-memory OfMemory s c h b
     (record {
-      onBlocked = λ request n f. answering-of s c _ request h _ n request _;
-      onConfigure = λ request n f o. configure-of (configuredBy s b n) c h request b n;
-      onUnconfigure = λ request n f o. beginning-of s c h request b n;
-      onQuery = λ request n f. answering-of s c _ request h _ n request _;
-      onStatus = λ request. reporting-of s c h request;
-      onCancel = λ request. cancelling-of s c h request;
-      onError = λ request. answering-of s c _ request h _ _ request _;
+      onBlocked = λ request n f. answering-of (numbered s c b) c _ request h _ n request _;
+      onConfigure = λ request n f o. configure-of (configuredBy (numbered s c b) b n) c h request b n;
+      onUnconfigure = λ request n f o. beginning-of (numbered s c b) c h request b n;
+      onQuery = λ request n f. answering-of (numbered s c b) c _ request h _ n request _;
+      onStatus = λ request. reporting-of (numbered s c b) c h request;
+      onCancel = λ request. cancelling-of (numbered s c b) c h request;
+      onError = λ request. answering-of (numbered s c b) c _ request h _ _ request _;
     })
+    (answering-of s c _ _ h _ _ _ _)
 
 -- what each route tells of
 module _ (s : List ℕ) (c handle : ℕ) where

@@ -1,7 +1,7 @@
 -- What is shown of every effect: its entry fits, reading the entry does to what is shown what the call did to the words, the reply fits the
 -- output, the state stays sound, and the blocks and the removal take a turn that Turns.antt names.
 -- Assumes nothing.
-use Prim.Native.Nat.{ℕ, _+_, _/_, _≤_, _<_}
+use Prim.Native.Nat.{ℕ, _+_, _*_, _/_, _≤_, _<_}
 use native.Mathlib.Omega.{arith}
 use mathlib.Core.Path.{_≡_, refl, sym, _∙_}
 use mathlib.Core.Bool.{Bool, true, false}
@@ -11,25 +11,19 @@ use lib.Dec.{eqb, ltb}
 use borrow.Author.Tests.{ltb-true, ltb-false, eqb-true, le-leb}
 use Rattle.model.specs.Choice.{pick, _or_}
 use Rattle.model.specs.declared.Event.{Event}
-use Rattle.model.specs.Layout.{placeOf, blockCountWord, lastWord, outstandingWord, channelCount, handleAt, highestMinor, highestNumber, lastOf, outputBytes, placeCount, readyAt, serviceCount, stageAt, stageIdle, stageOffered, stageRegistered, stateWords, withChannel, withService}
+use Rattle.model.specs.Layout.{placeOf, blockCountWord, lastWord, outstandingWord, channelCount, handleAt, highestMinor, highestNumber, lastOf, outputBytes, placeCount, readyAt, serviceCount, stageAt, stageIdle, stageOffered, stageRegistered, withChannel, withService, firstNumberedWord, heldOf, heldWord, firstHandleWord, firstStageWord, serviceWords, withNumber}
 use Rattle.model.specs.State.{serviceSound, ourHandle}
 use Rattle.model.specs.Journal.{fieldsOf, closedEvent, notedEvent, offerRefusedEvent, offeredEvent, readyEvent, registeredEvent, serviceEndedEvent, versionRefusedEvent}
-use Rattle.model.specs.Messages.{Effect, effect, acknowledged, closing, initiated, liveAs, liveFor, notAcknowledged, noting, offeredAs, offeredFor, offering, unregistered, withIdle, withRegistered, withdrawing, initAck}
+use Rattle.model.specs.Messages.{Effect, effect, numbersAnew, acknowledged, closing, initiated, liveAs, liveFor, notAcknowledged, noting, offeredAs, offeredFor, offering, unregistered, withIdle, withRegistered, withdrawing, initAck}
 use Rattle.model.specs.Reading.{View, read, stageOf, seeChannel, seeService, viewOf}
 use Rattle.model.proofs.Choice.{on-pick, on-first, both}
-use Rattle.model.proofs.View.{Shape, Moves, stays, turns, service-moves, channel-moves}
-use Rattle.model.proofs.Words.{Agree, service-frame, channel-frame}
-use Rattle.model.proofs.Rules.{Base, Removes, Sound, Live, live-rules, live-last, service-idle, base-later, removes-later}
-use Rattle.model.proofs.Sounds.{base-service, base-channel, removes-same}
-use Rattle.model.proofs.Turns.{Turn, leaves, aside, same-blocks, same-removal}
+use Rattle.model.proofs.View.{Shape, Moves, stays, then, turns, counted-view, service-moves, channel-moves}
+use Rattle.model.proofs.Words.{Agree, service-frame, channel-frame, number-frame, number-length}
+use Rattle.model.proofs.Rules.{Given, Base, Removes, Live, live-rules, live-last, service-idle, base-later, removes-later}
+use Rattle.model.proofs.Sounds.{base-service, base-channel, removes-same, sound-same}
+use Rattle.model.proofs.Turns.{Turn, leaves, aside, same-blocks, same-removal, turn-same}
 use Rattle.model.proofs.Events.{Fits, ready-fits, closed-fits, version-fits, offered-fits, registered-fits, refused-fits, ended-fits, noted-fits}
 use Rattle.model.proofs.Replies.{short-empty, initAck-short, initNack-short, regReq-short, unreg-short, unregAck-short, unregNack-short}
-
--- what is known of the state that an accepted call is given
-pub record Given (s : List ℕ) : Type 0 where
-  pub size : length s ≡ stateWords
-  pub facts : Sound s
-  pub number : lastOf s < highestNumber
 
 -- what reading an event does
 abbrev pub readBy : List ℕ → Event → View → View
@@ -73,7 +67,7 @@ module _ (s : List ℕ) (g : Given s) where
   service-changed e reply k stage handle minor b f r short ok fresh a =
       let w = service-frame s k stage handle minor in
       let low : Agree s (withService s k stage handle minor) blockCountWord lastWord = λ j lo hi. w j (λ p q. omega arith) in
-      let high : Agree s (withService s k stage handle minor) outstandingWord stateWords = λ j lo hi. w j (λ p q. omega arith) in
+      let high : Agree s (withService s k stage handle minor) outstandingWord firstNumberedWord = λ j lo hi. w j (λ p q. omega arith) in
       record {
         entry = f;
         moves = turns (readBy s e) (service-moves s shape k stage handle minor b) (sym (r (viewOf s)));
@@ -89,7 +83,7 @@ module _ (s : List ℕ) (g : Given s) where
   channel-changed e reply c ready b small f r short a =
       let w = channel-frame s c ready in
       let low : Agree s (withChannel s c ready) blockCountWord lastWord = λ j lo hi. w j (λ q. omega arith) (λ p q. omega arith) in
-      let high : Agree s (withChannel s c ready) outstandingWord stateWords = λ j lo hi. w j (λ q. omega arith) (λ p q. omega arith) in
+      let high : Agree s (withChannel s c ready) outstandingWord firstNumberedWord = λ j lo hi. w j (λ q. omega arith) (λ p q. omega arith) in
       record {
         entry = f;
         moves = turns (readBy s e) (channel-moves s shape c ready b) (sym (r (viewOf s)));
@@ -132,7 +126,7 @@ module _ (s : List ℕ) (g : Given s) where
   noting-good c type reply h f = unchanged (notedEvent c type) reply (noted-fits _ c next-number h type) (λ v. refl) f refl
 
   -- 5: the handle is that of the offer
-  registered-good : (c v minor handle : ℕ) → c < channelCount → v < serviceCount → minor ≤ highestMinor → stageAt s (placeOf c v) ≡ stageOffered → handleAt s (placeOf c v) ≡ handle → Good s (effect (registeredEvent c v minor handle) (withRegistered s c v handle minor) [])
+  pub registered-good : (c v minor handle : ℕ) → c < channelCount → v < serviceCount → minor ≤ highestMinor → stageAt s (placeOf c v) ≡ stageOffered → handleAt s (placeOf c v) ≡ handle → Good s (effect (registeredEvent c v minor handle) (withRegistered s c v handle minor) [])
   unfolding read pick fieldsOf stageOf
   registered-good c v minor handle h l m st q =
       let k : placeOf c v < placeCount = omega arith in
@@ -154,15 +148,6 @@ module _ (s : List ℕ) (g : Given s) where
           go : (x : Bool) → ltb j (placeOf c v) ≡ x → ⊥
           go true z = g .facts .base .apart j (placeOf c v) (ltb-true j (placeOf c v) z) (omega arith) live (λ x. omega arith) p
           go false z = g .facts .base .apart (placeOf c v) j (omega (arith, ltb-false j (placeOf c v) z)) b (λ x. omega arith) live (sym p)
-
-  pub acknowledged-good : (c handle minor : ℕ) → c < channelCount → minor ≤ highestMinor → Good s (acknowledged s c handle minor (offeredFor s c handle))
-  acknowledged-good c handle minor h m =
-      on-first (λ x. Good s (acknowledged s c handle minor x)) serviceCount (offeredAs s c handle)
-      (λ v r.
-      let o = both _ _ (r .passes) in
-      unfold acknowledged in
-      (registered-good c v _ handle h (r .below) (omega arith) (eqb-true _ stageOffered (o .0)) (eqb-true _ handle (o .1))))
-      (λ _. unfold acknowledged in (noting-good c _ [] h short-empty))
 
   pub not-acknowledged-good : (c handle : ℕ) → c < channelCount → Good s (notAcknowledged s c (offeredFor s c handle))
   not-acknowledged-good c handle h =
@@ -205,3 +190,70 @@ module _ (s : List ℕ) (g : Given s) where
   pub withdrawing-good : (c v : ℕ) → c < channelCount → v < serviceCount → Good s (withdrawing s c v)
   unfolding withdrawing
   withdrawing-good c v h l = ended-good c v _ h l (unreg-short _)
+
+-- Only words of request numbers differ.
+pub record OnlyNumbers (s t : List ℕ) : Type 0 where
+  pub size : length t ≡ length s
+  pub below : Agree s t 0 firstNumberedWord
+
+pub number-only : (s : List ℕ) (c numbered highest : ℕ) → OnlyNumbers s (withNumber s c numbered highest)
+number-only s c numbered highest = record { size = number-length s c numbered highest; below = number-frame s c numbered highest }
+
+pub anew-only : (s : List ℕ) (c v : ℕ) → OnlyNumbers s (numbersAnew s c v)
+unfolding numbersAnew
+anew-only s c v =
+    on-pick (OnlyNumbers s) _ _ _ (λ _. number-only s c 0 0) (λ _. record { size = refl; below = λ j lo hi. refl })
+
+module _ (s t : List ℕ) (n : OnlyNumbers s t) (g : Given s) where
+  last-numbers : lastOf t ≡ lastOf s
+  last-numbers = n .below lastWord (omega arith) (omega arith)
+
+  held-numbers : heldOf t ≡ heldOf s
+  held-numbers = n .below heldWord (omega arith) (omega arith)
+
+  pub given-numbers : Given t
+  given-numbers = record {
+    size = n .size ∙ g .size;
+    facts = sound-same s t (n .below) (g .facts);
+    number = rw last-numbers (g .number);
+  }
+
+  numbers-moves : Moves s t (λ v. v)
+  numbers-moves = record {
+    size = n .size;
+    blocks = n .below blockCountWord (omega arith) (omega arith);
+    last = last-numbers;
+    held = held-numbers;
+    view =
+        counted-view s t (shape s g)
+        (record { size = n .size; under = λ j lo hi. n .below j lo (omega arith); over = λ j lo hi. n .below j (omega arith) hi });
+  }
+
+  -- what is good of the one is good of the other
+  pub good-numbers : (e : Effect) → Good t e → Good s e
+  good-numbers e x = record {
+    entry = rw last-numbers at (x .entry);
+    moves = rw last-numbers at (then numbers-moves (x .moves));
+    fits = x .fits;
+    base = rw last-numbers at (x .base);
+    removal = rw last-numbers at (x .removal);
+    turn =
+        turn-same s t e
+        (same-blocks s t (g .facts .base .few) (λ j lo hi. n .below j (omega arith) (omega arith)))
+        (same-removal s t (λ j lo hi. n .below j (omega arith) hi))
+        (x .turn);
+  }
+
+-- 5, whose request numbers begin anew
+pub acknowledged-good : (s : List ℕ) → Given s → (c handle minor : ℕ) → c < channelCount → minor ≤ highestMinor → Good s (acknowledged s c handle minor (offeredFor s c handle))
+acknowledged-good s g c handle minor h m =
+    on-first (λ x. Good s (acknowledged s c handle minor x)) serviceCount (offeredAs s c handle)
+    (λ v r.
+    let o = both _ _ (r .passes) in
+    let n = anew-only s c v in
+    unfold acknowledged in
+    (good-numbers s (numbersAnew s c v) n g _
+    (registered-good (numbersAnew s c v) (given-numbers s (numbersAnew s c v) n g) c v _ handle h (r .below) (omega arith)
+    (n .below (firstStageWord + placeOf c v * serviceWords) (omega arith) (omega (arith, r .below)) ∙ eqb-true _ stageOffered (o .0))
+    (n .below (firstHandleWord + placeOf c v * serviceWords) (omega arith) (omega (arith, r .below)) ∙ eqb-true _ handle (o .1)))))
+    (λ _. unfold acknowledged in (noting-good s g c _ [] h short-empty))

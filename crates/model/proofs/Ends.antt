@@ -35,7 +35,8 @@ use Rattle.model.proofs.Sounds.{named-less}
 use Rattle.model.proofs.Turns.{SameSizes, Turn, leaves, configures, begins, marks, steps, aside}
 use Rattle.model.proofs.Steps.{Step, adds, nowork, ok, ends, step-of}
 use Rattle.model.proofs.View.{shape-moves}
-use Rattle.model.proofs.Effects.{Given, shape}
+use Rattle.model.proofs.Rules.{Given}
+use Rattle.model.proofs.Effects.{shape}
 use Rattle.model.proofs.WorkEffects.{Working, remains}
 use Rattle.model.proofs.Calls.{Taken, taken, in-range, on-act, on-drain, on-accepted}
 use Rattle.model.proofs.Lists.{Kept, meets-outcome, kept-doing, meets-doing, on-list}
@@ -154,18 +155,18 @@ module _ (s : List ℕ) (g : Given s) (o : outstandingOf s ≡ 1) where
   step-down e (ends b z k) some x = absurd (x k)
 
 -- an effect that is no end: a work step leaves fewer pages, any other no more
-turn-down : (s : List ℕ) → Given s → outstandingOf s ≡ 1 → (e : Effect) → Turn s e → (e .event .kind ≡ kindRemovalEnd → ⊥) → Down s e
-turn-down s g o e (leaves b r a) n = record { one = r .outstanding ∙ o; less = omega (arith, left-same s (e .state) (b .sizes) (r .removal)) }
-turn-down s g o e (configures b z z′ a) n = absurd (omega (arith, z, o))
-turn-down s g o e (begins m b r p c z k) n = absurd (omega (arith, z, o))
-turn-down s g o e (marks b r one k) n = record {
+turn-down : (s : List ℕ) → outstandingOf s ≡ 1 → (e : Effect) → Turn s e → (e .event .kind ≡ kindRemovalEnd → ⊥) → Down s e
+turn-down s o e (leaves b r a) n = record { one = r .outstanding ∙ o; less = omega (arith, left-same s (e .state) (b .sizes) (r .removal)) }
+turn-down s o e (configures b z z′ a) n = absurd (omega (arith, z, o))
+turn-down s o e (begins m b r p c z k) n = absurd (omega (arith, z, o))
+turn-down s o e (marks b r one k) n = record {
   one = r .one;
   less = omega (arith, left-cancelled (e .state) (ap (λ (x : Removal). x .cancelled) (r .removal) ∙ unfold marked in refl));
 }
-turn-down s g o e (steps budget some one same) n =
+turn-down s o e (steps t budget some h b r one same) n =
     rw same
-    (let d = step-down s g o (working s budget .effects) (step-of s g (rw o) budget) (paging s g (rw o) budget some .some) (rw same at n) in
-    record { one = d .still; less = omega (arith, d .fewer) })
+    (let d = step-down t h one (working t budget .effects) (step-of t h (rw one) budget) (paging t h (rw one) budget some .some) (rw same at n) in
+    record { one = d .still; less = omega (arith, d .fewer, left-same s t (b .sizes) (r .removal)) })
 
 -- the work step itself
 work-down : (s : List ℕ) → Given s → outstandingOf s ≡ 1 → (a : Action) → isWork a ≡ true → inRange a ≡ true → (effectOf s a .event .kind ≡ kindRemovalEnd → ⊥) → left (effectOf s a .state) + 1 ≤ left s
@@ -192,7 +193,7 @@ module _ (s j : List ℕ) (size : length s ≡ stateWords) (few : blocksOf s ≤
   act-fewer a out y n =
       let t = taken s j out a size y in
       let few′ = shape-moves (t .good .moves) (shape s (t .given)) .few in
-      let d = turn-down s (t .given) o (effectOf s a) (t .good .turn) (not-end t n) in
+      let d = turn-down s o (effectOf s a) (t .good .turn) (not-end t n) in
       let same = counted-left (effectOf s a .state) (lastOf s + 1) (heldOf s + 1) few′ in
       record {
         still = unfold accepted in (counted-removal (effectOf s a .state) (lastOf s + 1) (heldOf s + 1) .outstanding ∙ d .one);
@@ -241,14 +242,14 @@ aside-begun : (kind : ℕ) → aside kind ≡ true → kind ≡ kindBegun → �
 unfolding aside _or_
 aside-begun kind a k = clash false refl (rw k at a)
 
-begun-turn : (s : List ℕ) → Given s → (e : Effect) → Turn s e → e .event .kind ≡ kindBegun → outstandingOf (e .state) ≡ 1
-begun-turn s g e (leaves b r a) k = absurd (aside-begun _ a k)
-begun-turn s g e (configures b o o′ a) k = absurd (aside-begun _ a k)
-begun-turn s g e (begins m b r p c o k′) k = r .one
-begun-turn s g e (marks b r o k′) k = absurd (omega (arith, k, k′))
-begun-turn s g e (steps budget some one same) k = absurd (begun-step (working s budget .effects) (step-of s g (rw one) budget) (rw same at k))
+begun-turn : (s : List ℕ) (e : Effect) → Turn s e → e .event .kind ≡ kindBegun → outstandingOf (e .state) ≡ 1
+begun-turn s e (leaves b r a) k = absurd (aside-begun _ a k)
+begun-turn s e (configures b o o′ a) k = absurd (aside-begun _ a k)
+begun-turn s e (begins m b r p c o k′) k = r .one
+begun-turn s e (marks b r o k′) k = absurd (omega (arith, k, k′))
+begun-turn s e (steps t budget some h b r one same) k = absurd (begun-step (working t budget .effects) (step-of t h (rw one) budget) (rw same at k))
   where
-    begun-step : (e : Effect) → Step s e → e .event .kind ≡ kindBegun → ⊥
+    begun-step : (e : Effect) → Step t e → e .event .kind ≡ kindBegun → ⊥
     begun-step e (adds i n w b r d ev) k = omega (arith, k, ap (λ (v : Event). v .kind) ev)
     begun-step e (nowork i w b r z ev) k = omega (arith, k, ap (λ (v : Event). v .kind) ev)
     begun-step e (ok i n w b other now r d ev) k = omega (arith, k, ap (λ (v : Event). v .kind) ev)
@@ -260,7 +261,7 @@ begun-outstanding s j out a r size same z k =
     (λ y h.
     let t = taken s j out a size y in
     accepted-removal s j out (pagesOf s a) (effectOf s a) .outstanding
-    ∙ begun-turn s (t .given) (effectOf s a) (t .good .turn) (ap (λ (v : Event). v .kind) (sym (noted-is s j out (pagesOf s a) (effectOf s a) t)) ∙ h))
+    ∙ begun-turn s (effectOf s a) (t .good .turn) (ap (λ (v : Event). v .kind) (sym (noted-is s j out (pagesOf s a) (effectOf s a) t)) ∙ h))
     k
 
 left-most : (s : List ℕ) → left s ≤ pagesNamed s

@@ -15,7 +15,7 @@ use Rattle.model.specs.declared.Found.the-variants.{At, Nowhere}
 use Rattle.model.specs.declared.Removal.{Removal}
 use Rattle.model.specs.declared.Request.{Request}
 use Rattle.model.specs.declared.Request.the-variants.{Configure, Unconfigure, Query, Status, Cancel, Malformed}
-use Rattle.model.specs.Layout.{blocksOf, blockAt, lastOf, outstandingOf, isSet, removalOf, withConfigured, withRemoval, channelCount, mostBlocks, mostRecords, outputBytes, outstandingWord}
+use Rattle.model.specs.Layout.{blocksOf, blockAt, lastOf, outstandingOf, isSet, removalOf, withConfigured, withRemoval, withNumber, lastWord, channelCount, mostBlocks, mostRecords, outputBytes, outstandingWord}
 use Rattle.model.specs.State.{removalRoom, collectedSound, resultsSound}
 use Rattle.model.specs.Journal.{fieldsOf, answeredEvent, configuredEvent, cancelledEvent, begunEvent, codeBlocked, codeError, codeNone}
 use Rattle.model.specs.Messages.{Effect, effect}
@@ -30,7 +30,8 @@ use Rattle.model.proofs.Sounds.{named-less, base-configured, base-remov
 use Rattle.model.proofs.Turns.{SameSizes, SameBlocks, NewRemoval, Turn, configures, begins, marks, aside, same-sizes, sizes-then, flag-sizes, removal-blocks, new-removal}
 use Rattle.model.proofs.Mask.{configured-none, configured-more, bit-none}
 use Rattle.model.proofs.Replies.{short-empty, memory-length, results-short, queries-short, result-length, query-length, status-length}
-use Rattle.model.proofs.Effects.{Given, Good, readBy, shape, next-number, base-now, removes-now, unchanged}
+use Rattle.model.proofs.Rules.{Given}
+use Rattle.model.proofs.Effects.{Good, readBy, shape, next-number, base-now, removes-now, unchanged, number-only, given-numbers, good-numbers}
 use Rattle.model.specs.Blocks.{namedBlock}
 use Rattle.model.specs.Calls.{shown}
 
@@ -295,19 +296,30 @@ on-requested P s c handle request b Status f o = o .onStatus request
 on-requested P s c handle request b Cancel f o = o .onCancel request
 on-requested P s c handle request b Malformed f o = o .onError request
 
-pub on-memory : (P : Effect → Type 0) (s : List ℕ) (c handle : ℕ) (b : List ℕ) → OnMemory P s c handle b → P (answeredMemory s c handle b)
+-- the state with the request's number as the highest of its channel
+abbrev pub numbered : List ℕ → ℕ → List ℕ → List ℕ
+numbered s c b = withNumber s c 1 (requestNumber b)
+
+pub on-memory : (P : Effect → Type 0) (s : List ℕ) (c handle : ℕ) (b : List ℕ) → OnMemory P (numbered s c b) c handle b → P (answeringError s c handle (requestNumber b)) → P (answeredMemory s c handle b)
 unfolding answeredMemory
-on-memory P s c handle b o = on-requested P s c handle (requestNumber b) b (requestOf b) (right-form b) o
+on-memory P s c handle b o e =
+    on-pick P _ _ _ (λ _. on-requested P (numbered s c b) c handle (requestNumber b) b (requestOf b) (right-form b) o) (λ _. e)
 
 pub memory-good : (s : List ℕ) (g : Given s) (c handle : ℕ) (b : List ℕ) → c < channelCount → Ours 0 (lastOf s + 1) handle → Good s (answeredMemory s c handle b)
 memory-good s g c handle b h u =
+    let n = number-only s c 1 (requestNumber b) in
+    let t : List ℕ = numbered s c b in
+    let g′ = given-numbers s (numbered s c b) n g in
+    let back = good-numbers s (numbered s c b) n g in
+    let u′ : Ours 0 (lastOf (numbered s c b) + 1) handle = rw (n .below lastWord (omega arith) (omega arith)) u in
     on-memory (Good s) s c handle b
     (record {
-      onBlocked = λ request n f. blocked-good s g c handle request b n h (f .1);
-      onConfigure = λ request n f o. configure-good s g c handle request b n (configuredBy s b n) h (f .1) o (configured-all s g b n);
-      onUnconfigure = λ request n f o. begun-good s g c handle request b n h u (f .0) (f .1) o;
-      onQuery = λ request n f. querying-good s g c handle request b n h (f .1);
-      onStatus = λ request. reporting-good s g c handle request h;
-      onCancel = λ request. cancelling-good s g c handle request h;
-      onError = λ request. error-good s g c handle request h;
+      onBlocked = λ request k f. back _ (blocked-good (numbered s c b) g′ c handle request b k h (f .1));
+      onConfigure = λ request k f o. back _ (configure-good (numbered s c b) g′ c handle request b k (configuredBy (numbered s c b) b k) h (f .1) o (configured-all (numbered s c b) g′ b k));
+      onUnconfigure = λ request k f o. back _ (begun-good (numbered s c b) g′ c handle request b k h u′ (f .0) (f .1) o);
+      onQuery = λ request k f. back _ (querying-good (numbered s c b) g′ c handle request b k h (f .1));
+      onStatus = λ request. back _ (reporting-good (numbered s c b) g′ c handle request h);
+      onCancel = λ request. back _ (cancelling-good (numbered s c b) g′ c handle request h);
+      onError = λ request. back _ (error-good (numbered s c b) g′ c handle request h);
     })
+    (error-good s g c handle (requestNumber b) h)

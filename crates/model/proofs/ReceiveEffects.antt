@@ -18,7 +18,8 @@ use Rattle.model.proofs.Choice.{on-pick, on-first, both}
 use Rattle.model.proofs.Rules.{Ours, live-rules}
 use Rattle.model.proofs.Events.{delivered-fits, data-refused-fits}
 use Rattle.model.proofs.Replies.{short-empty, regNack-short, nack-short}
-use Rattle.model.proofs.Effects.{Given, Good, next-number, base-now, unchanged, closing-good, initiated-good, noting-good, acknowledged-good, not-acknowledged-good, unregistered-good}
+use Rattle.model.proofs.Rules.{Given}
+use Rattle.model.proofs.Effects.{Good, next-number, base-now, unchanged, closing-good, initiated-good, noting-good, acknowledged-good, not-acknowledged-good, unregistered-good}
 use Rattle.model.proofs.Turns.{aside}
 use Rattle.model.proofs.MemoryEffects.{memory-good}
 use Rattle.model.specs.Journal.{deliveredEvent, fieldsOf, dataRefusedEvent}

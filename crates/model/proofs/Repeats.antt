@@ -17,7 +17,7 @@ use Rattle.model.specs.declared.Found.the-variants.{At}
 use Rattle.model.specs.Layout.{memoryService, replyHeaderBytes, resultBytes, queryBytes, blockAt, outstandingOf, removalOf, mostRecords, stateWords}
 use Rattle.model.specs.Journal.{kindSettled, codeNone}
 use Rattle.model.specs.declared.Request.the-variants.{Configure, Query}
-use Rattle.model.specs.Memory.{DR-MEM-OK, DR-MEM-RES-FAILURE, DR-MEM-RES-NOWORK, Progress, addrIn, sizeIn, answeredMemory, answering, answeringConfigure, blocked, configureReply, configuredBy, queryRecord, querying, requestNumber, requestOf, requested, resultRecord}
+use Rattle.model.specs.Memory.{DR-MEM-OK, DR-MEM-RES-FAILURE, DR-MEM-RES-NOWORK, Progress, addrIn, sizeIn, answeredMemory, answering, answeringConfigure, answeringError, blocked, configureReply, configuredBy, queryRecord, querying, requestNumber, requestOf, requested, resultRecord}
 use Rattle.model.specs.Messages.{Effect}
 use Rattle.model.specs.Work.{blockNow, settled}
 use Rattle.model.specs.Calls.{Outcome, accepted, act, receive, work, effectOf, outcome, pagesOf, refusalOf}
@@ -32,7 +32,9 @@ use Rattle.model.proofs.View.{shape-moves}
 use Rattle.model.proofs.Steps.{Step, adds, nowork, ok, ends, step-of}
 use Rattle.model.proofs.Replies.{behind, record-stands, result-length, query-length}
 use Rattle.model.proofs.Rules.{sound-facts}
-use Rattle.model.proofs.Effects.{Given, shape}
+use Rattle.model.proofs.Rules.{Given}
+use Rattle.model.proofs.Effects.{shape, number-only, given-numbers}
+use Rattle.model.proofs.MemoryEffects.{numbered}
 use Rattle.model.proofs.Configured.{repeat-result}
 use Rattle.model.proofs.Calls.{taken, on-accepted}
 use Rattle.model.proofs.Kept.{noted-is}
@@ -96,26 +98,41 @@ result-in p handle request b n i h =
         ∙ behind (bytesOf 8 size) _ 8 0 4 (length-bytes 8 size)
         ∙ number-of-bytes 4 result _))
 
--- what the memory service replies to a CONFIGURE that it does not block, and to a QUERY
-configure-replies : (s : List ℕ) (c handle : ℕ) (b : List ℕ) (n : ℕ) → requestOf b ≡ Configure n → (i : ℕ) → i < n → answeredMemory s c handle b .event .code ≡ codeNone → resultIn (answeredMemory s c handle b .reply) i ≡ getD (configuredBy s b n .results) i 0 % 256 ^ 4
-unfolding answeredMemory requested blocked answering answeringConfigure
-configure-replies s c handle b n e i h =
-    rw e
-    (on-pick (λ (x : Effect). x .event .code ≡ codeNone → resultIn (x .reply) i ≡ getD (configuredBy s b n .results) i 0 % 256 ^ 4) _ _ _
-    (λ o z. absurd (omega arith))
-    (λ o z.
-    on-pick (λ (x : Effect). resultIn (x .reply) i ≡ getD (configuredBy s b n .results) i 0 % 256 ^ 4) _ _ _
-    (λ y. result-in (configuredBy s b n) handle (requestNumber b) b n i h)
-    (λ y. result-in (configuredBy s b n) handle (requestNumber b) b n i h)))
+-- a request of right form that is not answered ERROR
+not-error : (P : Effect → Type 0) (s : List ℕ) (c handle : ℕ) (b : List ℕ) → answeredMemory s c handle b .event .code ≡ codeNone → (requested (numbered s c b) c handle (requestNumber b) b (requestOf b) .event .code ≡ codeNone → P (requested (numbered s c b) c handle (requestNumber b) b (requestOf b))) → P (answeredMemory s c handle b)
+unfolding answeredMemory answeringError answering
+not-error P s c handle b z f =
+    on-pick (λ (x : Effect). x .event .code ≡ codeNone → P x) _ _ _ (λ o y. f y) (λ o y. absurd (omega arith)) z
 
-query-replies : (s : List ℕ) (c handle : ℕ) (b : List ℕ) (n : ℕ) → requestOf b ≡ Query n → (i : ℕ) → i < n → answerIn (answeredMemory s c handle b .reply) i ≡ queryRecord s (addrIn b i) (sizeIn b i)
-unfolding answeredMemory requested querying answering
-query-replies s c handle b n e i h =
-    rw e
-    (let x =
-    record-stands handle DR-MEM-OK n (requestNumber b) n i queryBytes (λ i. queryRecord s (addrIn b i) (sizeIn b i)) (λ i. query-length s (addrIn b i) (sizeIn b i)) h in
-    rw (x .parts, drop-at (x .before) _ (replyHeaderBytes + i * queryBytes) (x .long))
-    (take-at (queryRecord s (addrIn b i) (sizeIn b i)) (x .after) queryBytes (query-length s (addrIn b i) (sizeIn b i))))
+-- what the memory service replies to a CONFIGURE that it does not block, and to a QUERY
+configure-replies : (s : List ℕ) (c handle : ℕ) (b : List ℕ) (n : ℕ) → requestOf b ≡ Configure n → (i : ℕ) → i < n → answeredMemory s c handle b .event .code ≡ codeNone → resultIn (answeredMemory s c handle b .reply) i ≡ getD (configuredBy (numbered s c b) b n .results) i 0 % 256 ^ 4
+configure-replies s c handle b n e i h z =
+    not-error (λ (x : Effect). resultIn (x .reply) i ≡ getD (configuredBy (numbered s c b) b n .results) i 0 % 256 ^ 4) s c handle b z (rw e go)
+  where
+    t : List ℕ
+    t = numbered s c b
+
+    go : requested (numbered s c b) c handle (requestNumber b) b (Configure n) .event .code ≡ codeNone → resultIn (requested (numbered s c b) c handle (requestNumber b) b (Configure n) .reply) i ≡ getD (configuredBy (numbered s c b) b n .results) i 0 % 256 ^ 4
+    go =
+        unfold requested blocked answering answeringConfigure in
+        (on-pick (λ (x : Effect). x .event .code ≡ codeNone → resultIn (x .reply) i ≡ getD (configuredBy (numbered s c b) b n .results) i 0 % 256 ^ 4) _ _ _
+        (λ o y. absurd (omega arith))
+        (λ o y.
+        on-pick (λ (x : Effect). resultIn (x .reply) i ≡ getD (configuredBy (numbered s c b) b n .results) i 0 % 256 ^ 4) _ _ _
+        (λ q. result-in (configuredBy (numbered s c b) b n) handle (requestNumber b) b n i h)
+        (λ q. result-in (configuredBy (numbered s c b) b n) handle (requestNumber b) b n i h)))
+
+query-replies : (s : List ℕ) (c handle : ℕ) (b : List ℕ) (n : ℕ) → requestOf b ≡ Query n → (i : ℕ) → i < n → answeredMemory s c handle b .event .code ≡ codeNone → answerIn (answeredMemory s c handle b .reply) i ≡ queryRecord (numbered s c b) (addrIn b i) (sizeIn b i)
+query-replies s c handle b n e i h z =
+    not-error (λ (x : Effect). answerIn (x .reply) i ≡ queryRecord (numbered s c b) (addrIn b i) (sizeIn b i)) s c handle b z (λ _. rw e go)
+  where
+    go : answerIn (requested (numbered s c b) c handle (requestNumber b) b (Query n) .reply) i ≡ queryRecord (numbered s c b) (addrIn b i) (sizeIn b i)
+    go =
+        unfold requested querying answering in
+        (let x =
+        record-stands handle DR-MEM-OK n (requestNumber b) n i queryBytes (λ i. queryRecord (numbered s c b) (addrIn b i) (sizeIn b i)) (λ i. query-length (numbered s c b) (addrIn b i) (sizeIn b i)) h in
+        rw (x .parts, drop-at (x .before) _ (replyHeaderBytes + i * queryBytes) (x .long))
+        (take-at (queryRecord (numbered s c b) (addrIn b i) (sizeIn b i)) (x .after) queryBytes (query-length (numbered s c b) (addrIn b i) (sizeIn b i))))
 
 -- A memory request that is answered neither ERROR nor BLOCKED.
 module _ (s j out : List ℕ) (c handle : ℕ) (m : List ℕ) (r : Outcome) (size : length s ≡ stateWords) (same : r ≡ outcome s j (act (receive c m) out)) (a : Answered m handle r) where
@@ -149,18 +166,18 @@ module _ (s j out : List ℕ) (c handle : ℕ) (m : List ℕ) (r : Outcome) (siz
           }
 
   -- CONFIGURE is not blocked, and its reply has the results of its records
-  configure-result : (n : ℕ) → requestOf (requestIn m) ≡ Configure n → (i : ℕ) → i < n → resultIn (replyOf r) i ≡ getD (configuredBy s (requestIn m) n .results) i 0 % 256 ^ 4
+  configure-result : (n : ℕ) → requestOf (requestIn m) ≡ Configure n → (i : ℕ) → i < n → resultIn (replyOf r) i ≡ getD (configuredBy (numbered s c (requestIn m)) (requestIn m) n .results) i 0 % 256 ^ 4
   configure-result n e i h = rw (answers .replies) (configure-replies s c handle (requestIn m) n e i h (answers .code))
 
-  query-answer : (n : ℕ) → requestOf (requestIn m) ≡ Query n → (i : ℕ) → i < n → answerIn (replyOf r) i ≡ queryRecord s (addrIn (requestIn m) i) (sizeIn (requestIn m) i)
-  query-answer n e i h = rw (answers .replies) (query-replies s c handle (requestIn m) n e i h)
+  query-answer : (n : ℕ) → requestOf (requestIn m) ≡ Query n → (i : ℕ) → i < n → answerIn (replyOf r) i ≡ queryRecord (numbered s c (requestIn m)) (addrIn (requestIn m) i) (sizeIn (requestIn m) i)
+  query-answer n e i h = rw (answers .replies) (query-replies s c handle (requestIn m) n e i h (answers .code))
 
   -- a repeat before any failure
   configures-nowork : (n k i : ℕ) → requestOf (requestIn m) ≡ Configure n → i < n → Repeat (addrIn (requestIn m)) (sizeIn (requestIn m)) k i → ((q : ℕ) → q < i → resultIn (replyOf r) q ≡ DR-MEM-RES-FAILURE → ⊥) → resultIn (replyOf r) i ≡ DR-MEM-RES-NOWORK
   configures-nowork n k i e h again f =
       configure-result n e i h
       ∙ ap (λ (x : ℕ). x % 256 ^ 4)
-      (repeat-result s (answers .given) (requestIn m) n k i h (again .earlier) (again .sameAddress) (again .sameSize)
+      (repeat-result (numbered s c (requestIn m)) (given-numbers s (numbered s c (requestIn m)) (number-only s c 1 (requestNumber (requestIn m))) (answers .given)) (requestIn m) n k i h (again .earlier) (again .sameAddress) (again .sameSize)
       (λ q l y. f q l (configure-result n e q (omega arith) ∙ ap (λ (x : ℕ). x % 256 ^ 4) y)))
 
   queries-again : (n k i : ℕ) → requestOf (requestIn m) ≡ Query n → i < n → Repeat (addrIn (requestIn m)) (sizeIn (requestIn m)) k i → answerIn (replyOf r) i ≡ answerIn (replyOf r) k
@@ -175,7 +192,7 @@ after-call b u k q = record {
       λ a out z.
       let t = taken (u .state) (u .journal) out a (k .size) z in
       settled-counted (effectOf (u .state) a .state) _ _ (shape-moves (t .good .moves) (shape (u .state) (t .given)) .few)
-      (settled-turn (u .state) (t .given) (effectOf (u .state) a) (t .good .turn) q);
+      (settled-turn (u .state) (effectOf (u .state) a) (t .good .turn) q);
   onDrain = λ n h. settled-counted (u .state) _ _ (sound-facts (u .state) (k .sounds) .base .few) q;
   onRefusal = q;
 }

@@ -22,7 +22,6 @@ use Rattle.model.proofs.Choice.{every-at, every-make, or-true}
 use Rattle.model.proofs.Words.{counts-frame}
 use Rattle.model.proofs.Sounds.{named-less}
 use Rattle.model.proofs.Turns.{SameBlocks, SameRemoval, same-blocks, same-removal, Turn, leaves, configures, begins, marks, steps}
-use Rattle.model.proofs.Effects.{Given}
 use Rattle.model.proofs.Steps.{Step, adds, nowork, ok, ends, step-of}
 
 -- the block of record i of a removal
@@ -112,15 +111,16 @@ settled-step s e (ok i n w b other now r d ev) o q =
 settled-step s e (ends b o k) one q = settled-none (e .state) o
 
 -- every effect keeps it
-pub settled-turn : (s : List ℕ) → Given s → (e : Effect) → Turn s e → settledUnconfigured s ≡ true → settledUnconfigured (e .state) ≡ true
-settled-turn s g e (leaves b r a) q = settled-same s (e .state) b r q
-settled-turn s g e (configures b o o′ a) q = settled-none (e .state) o′
-settled-turn s g e (begins m b r p c o k) q = settled-make (e .state) (rw (r .removal) (λ i h. absurd (omega (arith, p))))
-settled-turn s g e (marks b r o k) q =
+pub settled-turn : (s : List ℕ) (e : Effect) → Turn s e → settledUnconfigured s ≡ true → settledUnconfigured (e .state) ≡ true
+settled-turn s e (leaves b r a) q = settled-same s (e .state) b r q
+settled-turn s e (configures b o o′ a) q = settled-none (e .state) o′
+settled-turn s e (begins m b r p c o k) q = settled-make (e .state) (rw (r .removal) (λ i h. absurd (omega (arith, p))))
+settled-turn s e (marks b r o k) q =
     settled-make (e .state)
     (rw (r .removal)
     (same-kept s (e .state) b (removalOf s) (marked (removalOf s)) (unfold marked in refl) (unfold marked in refl) (unfold marked in refl) (settled-at s q o)))
-settled-turn s g e (steps budget some o same) q = rw same (settled-step s (working s budget .effects) (step-of s g (rw o) budget) o q)
+settled-turn s e (steps t budget some h b r o same) q =
+    rw same (settled-step t (working t budget .effects) (step-of t h (rw o) budget) o (settled-same s t b r q))
 
 -- and so does counting an entry
 pub counted-blocks : (s : List ℕ) (last held : ℕ) → blocksOf s ≤ mostBlocks → SameBlocks s (withCounts s last held)

@@ -10,16 +10,16 @@ use lib.Dec.{eqb}
 use borrow.Author.Tests.{eqb-true, eqb-false, eq-eqb, not-true}
 use Rattle.model.specs.Choice.{pick, _and_}
 use Rattle.model.specs.declared.Removal.{Removal}
-use Rattle.model.specs.Layout.{readyAt, stageAt, handleAt, minorAt, blocksOf, Block, blockAt, outstandingOf, wordOf, removalOf, withChannel, withService, withConfigured, withCounts, withRemoval, withoutRemoval, blockCountWord, cancelledWord, channelCount, channelWords, firstBlockWord, firstHandleWord, firstMinorWord, firstStageWord, highestNumber, lastWord, mostBlocks, mostHeld, outstandingWord, placeCount, serviceCount, serviceWords, stateWords, stageIdle}
+use Rattle.model.specs.Layout.{readyAt, stageAt, handleAt, minorAt, blocksOf, Block, blockAt, outstandingOf, wordOf, removalOf, withChannel, withService, withConfigured, withCounts, withRemoval, withoutRemoval, blockCountWord, cancelledWord, channelCount, channelWords, firstBlockWord, firstHandleWord, firstMinorWord, firstStageWord, highestNumber, lastWord, mostBlocks, mostHeld, outstandingWord, placeCount, serviceCount, serviceWords, stateWords, stageIdle, firstNumberedWord, lastOf, heldOf, heldWord, withNumber}
 use Rattle.model.specs.Blocks.{endOf, blockKeeps, endBefore, names, namedBlock}
 use Rattle.model.specs.State.{serviceSound, roomOf, removalRoom, sound, roomAt}
 use Rattle.model.specs.Reading.{flagged}
 use Rattle.model.proofs.Choice.{clash, first-same, first-facts}
 use Rattle.model.specs.declared.Found.{Found}
 use Rattle.model.specs.declared.Found.the-variants.{At, Nowhere}
-use Rattle.model.proofs.Words.{Agree, Arrays, service-frame, service-word, configured-frame, counts-frame, last-counts, held-counts, channel-frame, channel-ready, channel-zero, removal-frame, removal-same, removal-back, head-back, without-frame}
+use Rattle.model.proofs.Words.{Agree, Arrays, service-frame, service-word, configured-frame, counts-frame, last-counts, held-counts, channel-frame, channel-ready, channel-zero, removal-frame, removal-same, removal-back, head-back, without-frame, number-frame}
 use Rattle.model.proofs.View.{block-same, flag-other, flag-here}
-use Rattle.model.proofs.Rules.{Base, Apart, block-rules, block-last, Removes, RemovalFacts, service-idle, sound-test}
+use Rattle.model.proofs.Rules.{Base, Apart, block-rules, block-last, Removes, RemovalFacts, service-idle, Sound, sound-facts, sound-test}
 
 -- a block that a pair names is one of the state's
 pub named-less : (s : List ℕ) (addr size i : ℕ) → namedBlock s addr size ≡ At i → i < blocksOf s
@@ -104,7 +104,7 @@ base-same s t last a b =
     base-make s t last b (λ j lo hi. a j (omega arith) hi) (ready-kept s t last b f) (services-kept s t last b f) (apart-kept s t last b f)
 
 -- the removal as before
-pub removes-same : (s t : List ℕ) (last : ℕ) → blocksOf s ≤ mostBlocks → Agree s t blockCountWord lastWord → Agree s t outstandingWord stateWords → Removes s last → Removes t last
+pub removes-same : (s t : List ℕ) (last : ℕ) → blocksOf s ≤ mostBlocks → Agree s t blockCountWord lastWord → Agree s t outstandingWord firstNumberedWord → Removes s last → Removes t last
 removes-same s t last few a b f o =
     let r = f (rw (b outstandingWord (omega arith) (omega arith)) at o) in
     let m = r .facts in
@@ -349,3 +349,18 @@ sound-counted s last held n b r p q l =
   where
     base-make′ : ((j : ℕ) → (lastWord ≤ j → j < outstandingWord → ⊥) → getD (withCounts s last held) j 0 ≡ getD s j 0) → Base (withCounts s last held) last
     base-make′ e = base-same s (withCounts s last held) last (λ j lo hi. e j (λ p q. omega arith)) b
+
+-- Only words of request numbers differ.
+pub sound-same : (s t : List ℕ) → Agree s t 0 firstNumberedWord → Sound s → Sound t
+sound-same s t a f =
+    let last : lastOf t ≡ lastOf s = a lastWord (omega arith) (omega arith) in
+    let held : heldOf t ≡ heldOf s = a heldWord (omega arith) (omega arith) in
+    record {
+      base = rw last (base-same s t (lastOf s) (λ j lo hi. a j lo (omega arith)) (f .base));
+      removal = rw last (removes-same s t (lastOf s) (f .base .few) (λ j lo hi. a j (omega arith) (omega arith)) (λ j lo hi. a j (omega arith) hi) (f .removal));
+      counts = record { lasts = rw last (f .counts .lasts); helds = rw held (f .counts .helds); numbered = rw (last, held) (f .counts .numbered) };
+    }
+
+pub sound-numbers : (s : List ℕ) (c numbered highest : ℕ) → sound s ≡ true → sound (withNumber s c numbered highest) ≡ true
+sound-numbers s c numbered highest e =
+    sound-test (withNumber s c numbered highest) (sound-same s (withNumber s c numbered highest) (number-frame s c numbered highest) (sound-facts s e))

@@ -16,7 +16,8 @@ use Rattle.model.proofs.Words.{loaded-arrays, without-frame, without-ou
 use Rattle.model.proofs.View.{shape-moves, configured-moves}
 use Rattle.model.proofs.Sounds.{count-flag, named-less}
 use Rattle.model.proofs.Turns.{Turn, leaves, configures, begins, marks, steps, SameSizes, SameBlocks, NewRemoval, same-blocks, sizes-then, flag-sizes, flag-now, flag-else, removal-blocks, new-removal}
-use Rattle.model.proofs.Effects.{Given, shape}
+use Rattle.model.proofs.Rules.{Given}
+use Rattle.model.proofs.Effects.{shape}
 use Rattle.model.proofs.WorkEffects.{Working, on-step, settled-arrays}
 
 -- A step on block i.
@@ -103,9 +104,10 @@ step-sizes s e (ok i n w b other now r d ev) = b
 step-sizes s e (ends b o k) = b .sizes
 
 -- and so does every effect
-pub turn-sizes : (s : List ℕ) → Given s → (e : Effect) → Turn s e → SameSizes s (e .state)
-turn-sizes s g e (leaves b r a) = b .sizes
-turn-sizes s g e (configures b o o′ a) = b
-turn-sizes s g e (begins m b r p c o k) = b .sizes
-turn-sizes s g e (marks b r o k) = b .sizes
-turn-sizes s g e (steps budget some o same) = rw same (step-sizes s (working s budget .effects) (step-of s g (rw o) budget))
+pub turn-sizes : (s : List ℕ) (e : Effect) → Turn s e → SameSizes s (e .state)
+turn-sizes s e (leaves b r a) = b .sizes
+turn-sizes s e (configures b o o′ a) = b
+turn-sizes s e (begins m b r p c o k) = b .sizes
+turn-sizes s e (marks b r o k) = b .sizes
+turn-sizes s e (steps t budget some h b r o same) =
+    rw same (sizes-then s t (working t budget .effects .state) (b .sizes) (step-sizes t (working t budget .effects) (step-of t h (rw o) budget)))

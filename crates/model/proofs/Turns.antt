@@ -2,14 +2,14 @@
 -- Assumes nothing.
 use Prim.Native.Nat.{ℕ, _≤_, _<_}
 use native.Mathlib.Omega.{arith}
-use mathlib.Core.Path.{_≡_, refl, ap, _∙_}
+use mathlib.Core.Path.{_≡_, refl, sym, ap, _∙_}
 use mathlib.Core.Bool.{Bool, true}
 use mathlib.Core.List.{List}
 use lib.ListN.{length}
 use lib.Dec.{ltb}
 use Rattle.model.specs.Choice.{_or_}
 use Rattle.model.specs.declared.Removal.{Removal}
-use Rattle.model.specs.Layout.{Block, blockAt, blocksOf, outstandingOf, removalOf, withConfigured, withRemoval, blockCountWord, lastWord, outstandingWord, stateWords, mostBlocks}
+use Rattle.model.specs.Layout.{Block, blockAt, blocksOf, outstandingOf, removalOf, withConfigured, withRemoval, blockCountWord, lastWord, outstandingWord, stateWords, mostBlocks, firstNumberedWord}
 use Rattle.model.specs.Blocks.{names, namedBlock}
 use Rattle.model.specs.Journal.{kindBegun, kindCancelled, kindRemovalEnd}
 use Rattle.model.specs.Memory.{marked}
@@ -18,6 +18,7 @@ use Rattle.model.specs.Reading.{flagged}
 use Rattle.model.specs.Work.{working}
 use Rattle.model.proofs.Choice.{first-same}
 use Rattle.model.proofs.Words.{Agree, Arrays, removal-frame, removal-same, removal-back, head-back}
+use Rattle.model.proofs.Rules.{Given}
 use Rattle.model.proofs.Sounds.{count-same, at-same, block-named, by-flag, count-flag}
 
 -- Blocks as before but for their flags.
@@ -78,7 +79,7 @@ pub record SameRemoval (s t : List ℕ) : Type 0 where
   pub outstanding : outstandingOf t ≡ outstandingOf s
   pub removal : removalOf t ≡ removalOf s
 
-pub same-removal : (s t : List ℕ) → Agree s t outstandingWord stateWords → SameRemoval s t
+pub same-removal : (s t : List ℕ) → Agree s t outstandingWord firstNumberedWord → SameRemoval s t
 same-removal s t a = record {
   outstanding = a outstandingWord (omega arith) (omega arith);
   removal = removal-same s t a;
@@ -120,5 +121,30 @@ pub data Turn (s : List ℕ) (e : Effect) : Type 0 where
       outstandingOf s ≡ 1 →
       e .event .kind ≡ kindCancelled →
       Turn s e
-  -- it is a work step, with a budget in range; Steps.antt says what that does
-  steps : (budget : ℕ) → 1 ≤ budget → outstandingOf s ≡ 1 → e ≡ working s budget .effects → Turn s e
+  -- it is a work step, with a budget in range, of a state t with the blocks and the removal of s; Steps.antt says what that does
+  steps :
+      (t : List ℕ) (budget : ℕ) →
+      1 ≤ budget →
+      Given t →
+      SameBlocks s t →
+      SameRemoval s t →
+      outstandingOf t ≡ 1 →
+      e ≡ working t budget .effects →
+      Turn s e
+
+pub blocks-then : (s t u : List ℕ) → SameBlocks s t → SameBlocks t u → SameBlocks s u
+blocks-then s t u a b = record {
+  sizes = sizes-then s t u (a .sizes) (b .sizes);
+  flags = λ i h. b .flags i (omega (arith, a .sizes .count)) ∙ a .flags i h;
+}
+
+pub removal-then : (s t u : List ℕ) → SameRemoval s t → SameRemoval t u → SameRemoval s u
+removal-then s t u a b = record { outstanding = b .outstanding ∙ a .outstanding; removal = b .removal ∙ a .removal }
+
+-- the turn of an effect, for another state with the same blocks and removal
+pub turn-same : (s t : List ℕ) (e : Effect) → SameBlocks s t → SameRemoval s t → Turn t e → Turn s e
+turn-same s t e p q (leaves b r a) = leaves (blocks-then s t (e .state) p b) (removal-then s t (e .state) q r) a
+turn-same s t e p q (configures b o o′ a) = configures (sizes-then s t (e .state) (p .sizes) b) (sym (q .outstanding) ∙ o) o′ a
+turn-same s t e p q (begins m b r x c o k) = begins m (blocks-then s t (e .state) p b) r x c (sym (q .outstanding) ∙ o) k
+turn-same s t e p q (marks b r o k) = marks (blocks-then s t (e .state) p b) (rw (q .removal) at r) (sym (q .outstanding) ∙ o) k
+turn-same s t e p q (steps u budget some g b r o same) = steps u budget some g (blocks-then s t u p b) (removal-then s t u q r) o same

@@ -11,7 +11,7 @@ use lib.Dec.{ltb}
 use borrow.Author.Tests.{ltb-true, ltb-false}
 use Rattle.model.specs.Choice.{tabulate}
 use Rattle.model.specs.declared.Removal.{Removal}
-use Rattle.model.specs.Layout.{isSet, wordOf, removalOf, removalHead, withChannel, withService, withConfigured, withCounts, withRemoval, withoutRemoval, outstandingOf, cancelledOf, blockWords, cancelledWord, channelCount, channelWords, collectedWord, configuredPlace, countWord, firstAddressWord, firstBlockWord, firstResultWord, firstSizeWord, firstStageWord, heldWord, lastWord, mostBlocks, mostRecords, outstandingWord, placeCount, positionWord, removalChannelWord, removalHandleWord, removalWords, requestWord, serviceWords, stateWords, headWords}
+use Rattle.model.specs.Layout.{isSet, wordOf, removalOf, removalHead, withChannel, withService, withConfigured, withCounts, withRemoval, withoutRemoval, outstandingOf, cancelledOf, blockWords, cancelledWord, channelCount, channelWords, collectedWord, configuredPlace, countWord, firstAddressWord, firstBlockWord, firstResultWord, firstSizeWord, firstStageWord, heldWord, lastWord, mostRecords, outstandingWord, placeCount, positionWord, removalChannelWord, removalHandleWord, removalWords, requestWord, serviceWords, stateWords, headWords, firstNumberedWord, numberWords, withNumber, mostBlocks}
 use Rattle.model.proofs.Choice.{tabulate-at, tabulate-length, tabulate-same}
 
 -- A run of stores: before it, after it, outside it, inside it.
@@ -144,6 +144,14 @@ module _ (s : List ℕ) (m : Removal) (n : length s ≡ stateWords) (a : Arrays 
   unfolding r3
   q3 = length-sets (r2 s m) firstSizeWord (m .size) ∙ q2
 
+  pub removal-above : (j : ℕ) → firstNumberedWord ≤ j → getD (withRemoval s m) j 0 ≡ getD s j 0
+  unfolding withRemoval r1 r2 r3
+  removal-above j h =
+      sets-above (r3 s m) (m .result) firstResultWord j (omega (arith, a .results))
+      ∙ sets-above (r2 s m) (m .size) firstSizeWord j (omega (arith, a .sizes))
+      ∙ sets-above (r1 s m) (m .address) firstAddressWord j (omega (arith, a .addresses))
+      ∙ sets-above s (removalHead m) outstandingWord j (omega arith)
+
   pub head-back : (i : ℕ) → i < headWords → getD (withRemoval s m) (outstandingWord + i) 0 ≡ getD (removalHead m) i 0
   unfolding withRemoval r1 r2 r3
   head-back i h =
@@ -222,7 +230,7 @@ module _ (s : List ℕ) (n : length s ≡ stateWords) (one : outstandingOf s ≡
   pub removal-again : withRemoval s (removalOf s) ≡ s
   removal-again =
       ext-getD 0 (withRemoval s (removalOf s)) s (removal-length s (removalOf s))
-      (λ j h. go j (omega (arith, removal-length s (removalOf s))) (ltb j outstandingWord) refl (ltb j firstAddressWord) refl (ltb j firstSizeWord) refl (ltb j firstResultWord) refl)
+      (λ j h. go j (omega (arith, removal-length s (removalOf s))) (ltb j outstandingWord) refl (ltb j firstAddressWord) refl (ltb j firstSizeWord) refl (ltb j firstResultWord) refl (ltb j firstNumberedWord) refl)
     where
       a : Arrays (removalOf s)
       a = loaded-arrays s
@@ -230,30 +238,32 @@ module _ (s : List ℕ) (n : length s ≡ stateWords) (one : outstandingOf s ≡
       at : (k i j : ℕ) → k + i ≡ j → getD (withRemoval s (removalOf s)) (k + i) 0 ≡ getD s (k + i) 0 → getD (withRemoval s (removalOf s)) j 0 ≡ getD s j 0
       at k i j e p = rw e at p
 
-      go : (j : ℕ) → j < stateWords → (p : Bool) → ltb j outstandingWord ≡ p → (q : Bool) → ltb j firstAddressWord ≡ q → (r : Bool) → ltb j firstSizeWord ≡ r → (t : Bool) → ltb j firstResultWord ≡ t → getD (withRemoval s (removalOf s)) j 0 ≡ getD s j 0
-      go j h true p q q′ r r′ t t′ = removal-frame s (removalOf s) j (ltb-true j outstandingWord p)
-      go j h false p true q′ r r′ t t′ =
+      go : (j : ℕ) → j < stateWords → (p : Bool) → ltb j outstandingWord ≡ p → (q : Bool) → ltb j firstAddressWord ≡ q → (r : Bool) → ltb j firstSizeWord ≡ r → (t : Bool) → ltb j firstResultWord ≡ t → (u : Bool) → ltb j firstNumberedWord ≡ u → getD (withRemoval s (removalOf s)) j 0 ≡ getD s j 0
+      go j h true p q q′ r r′ t t′ u u′ = removal-frame s (removalOf s) j (ltb-true j outstandingWord p)
+      go j h false p true q′ r r′ t t′ u u′ =
           let lo = ltb-false j outstandingWord p in
           let hi = ltb-true j firstAddressWord q′ in
           at outstandingWord (j - outstandingWord) j (omega arith)
           (head-back s (removalOf s) n a (j - outstandingWord) (omega arith) ∙ head-same (j - outstandingWord) (omega arith))
-      go j h false p false q′ true r′ t t′ =
+      go j h false p false q′ true r′ t t′ u u′ =
           let lo = ltb-false j firstAddressWord q′ in
           let hi = ltb-true j firstSizeWord r′ in
           at firstAddressWord (j - firstAddressWord) j (omega arith)
           (address-back s (removalOf s) n a (j - firstAddressWord) (omega arith) ∙ unfold removalOf in (sixteen-same firstAddressWord (j - firstAddressWord) (omega arith)))
-      go j h false p false q′ false r′ true t′ =
+      go j h false p false q′ false r′ true t′ u u′ =
           let lo = ltb-false j firstSizeWord r′ in
           let hi = ltb-true j firstResultWord t′ in
           at firstSizeWord (j - firstSizeWord) j (omega arith)
           (size-back s (removalOf s) n a (j - firstSizeWord) (omega arith) ∙ unfold removalOf in (sixteen-same firstSizeWord (j - firstSizeWord) (omega arith)))
-      go j h false p false q′ false r′ false t′ =
+      go j h false p false q′ false r′ false t′ false u′ = removal-above s (removalOf s) n a j (ltb-false j firstNumberedWord u′)
+      go j h false p false q′ false r′ false t′ true u′ =
           let lo = ltb-false j firstResultWord t′ in
+          let hi = ltb-true j firstNumberedWord u′ in
           at firstResultWord (j - firstResultWord) j (omega arith)
           (result-back s (removalOf s) n a (j - firstResultWord) (omega arith) ∙ unfold removalOf in (sixteen-same firstResultWord (j - firstResultWord) (omega arith)))
 
 -- equal words are the same removal
-pub removal-same : (s t : List ℕ) → Agree s t outstandingWord stateWords → removalOf t ≡ removalOf s
+pub removal-same : (s t : List ℕ) → Agree s t outstandingWord firstNumberedWord → removalOf t ≡ removalOf s
 unfolding removalOf
 removal-same s t a =
     rw (
@@ -313,3 +323,12 @@ module _ (s : List ℕ) (c ready : ℕ) (n : length s ≡ stateWords) (b : c < c
 pub configured-word : (s : List ℕ) (i flag : ℕ) → length s ≡ stateWords → i < mostBlocks → getD (withConfigured s i flag) (firstBlockWord + i * blockWords + configuredPlace) 0 ≡ flag
 unfolding withConfigured
 configured-word s i flag n h = getD-set-same s (firstBlockWord + i * blockWords + configuredPlace) flag 0 (omega arith)
+
+-- the words of request numbers stand after all others
+pub number-frame : (s : List ℕ) (c numbered highest : ℕ) → Agree s (withNumber s c numbered highest) 0 firstNumberedWord
+unfolding withNumber
+number-frame s c numbered highest j lo hi = sets-below s (numbered ∷ highest ∷ []) (firstNumberedWord + c * numberWords) j (omega arith)
+
+pub number-length : (s : List ℕ) (c numbered highest : ℕ) → length (withNumber s c numbered highest) ≡ length s
+unfolding withNumber
+number-length s c numbered highest = length-sets s (firstNumberedWord + c * numberWords) (numbered ∷ highest ∷ [])

@@ -23,12 +23,13 @@ use Rattle.model.proofs.Choice.{on-pick, or-false, every-at, every-make
 use Rattle.model.proofs.Words.{Arrays, loaded-arrays, without-outstanding}
 use Rattle.model.proofs.View.{shape-moves, then, turns, configured-moves, removal-moves, without-moves, noBlock}
 use Rattle.model.proofs.Rules.{RemovalFacts, block-rules}
-use Rattle.model.proofs.Turns.{Turn, steps}
+use Rattle.model.proofs.Turns.{Turn, steps, same-blocks, same-removal}
 use Rattle.model.proofs.Sounds.{named-less, base-configured, base-removal, base-without, removes-made, removes-none}
 use Rattle.model.proofs.Mask.{unconfigured-set}
 use Rattle.model.proofs.Replies.{short-empty, results-short, result-length}
 use Rattle.model.proofs.Events.{codeEnd, collected-fits, settled-fits, end-fits}
-use Rattle.model.proofs.Effects.{Given, Good, shape, next-number, base-now, removes-now}
+use Rattle.model.proofs.Rules.{Given}
+use Rattle.model.proofs.Effects.{Good, shape, next-number, base-now, removes-now}
 use Rattle.model.proofs.MemoryEffects.{shown-at, collected-none, removing-now, removal-changed}
 use Rattle.model.specs.Memory.{DR-MEM-RES-NOWORK, DR-MEM-RES-OK}
 
@@ -256,4 +257,4 @@ working-good s g budget o one l =
       onNowork = λ i w z. nowork-good s g o i (w .more);
       onCollect = λ i w n. collects-good s g o i budget l w n;
     })
-    (steps budget one (removes-now s g o .one) refl)
+    (steps s budget one g (same-blocks s s (g .facts .base .few) (λ j lo hi. refl)) (same-removal s s (λ j lo hi. refl)) (removes-now s g o .one) refl)

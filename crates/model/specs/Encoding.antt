@@ -16,7 +16,7 @@ use Rattle.model.specs.Blocks.{Lists, acceptedLists, setupState, names}
 use Rattle.model.specs.State.{sound}
 use Rattle.model.specs.Reading.{Stage, idle, offered, registered}
 
--- "What the agent holds", without words. The lists are those of setup's form, with each block configured or not as it now is.
+-- "What the agent holds", without words, but for request numbers, of which soundness says nothing. The lists are those of setup's form, with each block configured or not as it now is.
 pub record Told : Type 0 where
   pub ready : ℕ → Bool
   pub service : ℕ → Stage
@@ -101,7 +101,7 @@ pub record SaysRemoval (r m : Removal) : Type 0 where
   pub size : (i : ℕ) → i < m .count → getD (r .size) i 0 ≡ getD (m .size) i 0
   pub result : (i : ℕ) → i < m .position → getD (r .result) i 0 ≡ getD (m .result) i 0
 
--- the words s say the state t: of the words that have a meaning in it
+-- the words s say the state t: of the words that have a meaning in it, those of request numbers left out
 pub record Says (s : List ℕ) (t : Told) : Type 0 where
   pub ready : (c : ℕ) → c < channelCount → readyAt s c ≡ wordOf (t .ready c)
   pub service : (k : ℕ) → k < placeCount → SaysService (stageAt s k) (handleAt s k) (minorAt s k) (t .service k)

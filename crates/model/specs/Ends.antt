@@ -66,7 +66,7 @@ abbrev pub told : Entry → Event
 told e = eventOf (unpacked (e .first)) (e .second)
 
 -- The pages of the record that is not settled yet: those of the entries of kind 14 since the last of kind 12 or 15. A CANCEL (13) is followed by the removal's
--- end before any other record is settled, so that the entries before it belong to no record settled OK.
+-- end before any other record is settled, so that the entries of kind 14 between the last 12 or 15 and a CANCEL belong to no record settled OK.
 unfoldable pub movedBy : ℕ → Event → ℕ
 movedBy n e =
     pick (eqb (e .kind) kindBegun or eqb (e .kind) kindSettled) 0

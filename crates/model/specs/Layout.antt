@@ -8,6 +8,7 @@
 --   1 if a removal is outstanding, else 0; 1 if it is cancelled, else 0
 --   its channel, handle, request number, count of records, position, pages collected
 --   the records' addresses; their sizes; the settled records' results: 0 OK, 4 NOWORK
+--   channel c: 0 if no memory request of right form came since service 0 was last registered there, else the next word is the highest number of those
 -- Assumes nothing.
 use Prim.Native.Nat.{ℕ, _+_, _-_, _*_}
 use mathlib.Core.Bool.{Bool, true, false, not}
@@ -190,12 +191,22 @@ firstSizeWord = firstAddressWord + mostRecords
 abbrev pub firstResultWord : ℕ
 firstResultWord = firstSizeWord + mostRecords
 
+-- a channel's words of request numbers: whether there is a highest one, and that number
+abbrev pub numberWords : ℕ
+numberWords = 2
+
+abbrev pub firstNumberedWord : ℕ
+firstNumberedWord = firstResultWord + mostRecords
+
+abbrev pub firstHighestWord : ℕ
+firstHighestWord = firstNumberedWord + 1
+
 abbrev pub stateWords : ℕ
-stateWords = firstResultWord + mostRecords
+stateWords = firstNumberedWord + channelCount * numberWords
 
 -- the words of a removal, outstanding or not
 abbrev pub removalWords : ℕ
-removalWords = stateWords - outstandingWord
+removalWords = firstNumberedWord - outstandingWord
 
 -- channel c's own word
 abbrev pub readyAt : List ℕ → ℕ → ℕ
@@ -229,6 +240,13 @@ outstandingOf s = getD s outstandingWord 0
 
 abbrev pub cancelledOf : List ℕ → ℕ
 cancelledOf s = getD s cancelledWord 0
+
+-- 02, ticket 4, "The highest numbers join the state": whether channel c has one, and the number
+abbrev pub numberedAt : List ℕ → ℕ → ℕ
+numberedAt s c = getD s (firstNumberedWord + c * numberWords) 0
+
+abbrev pub highestAt : List ℕ → ℕ → ℕ
+highestAt s c = getD s (firstHighestWord + c * numberWords) 0
 
 -- five words for a block (01: "base, pages, first permanent page (counted from the base), permanent pages, configured (0 or 1)")
 pub record Block : Type 0 where
@@ -305,3 +323,7 @@ withRemoval s m =
 -- no removal outstanding, and its words 0
 unfoldable pub withoutRemoval : List ℕ → List ℕ
 withoutRemoval s = sets s outstandingWord (replicate removalWords 0)
+
+-- channel c's highest request number (numbered 1), or none (0)
+unfoldable pub withNumber : List ℕ → ℕ → ℕ → ℕ → List ℕ
+withNumber s c numbered highest = sets s (firstNumberedWord + c * numberWords) (numbered ∷ highest ∷ [])

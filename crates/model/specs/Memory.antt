@@ -6,13 +6,13 @@ use mathlib.Core.List.{List, [], _∷_, _++_}
 use lib.ListN.{length, getD, replicate}
 use lib.Dec.{leb, ltb, eqb}
 use Rattle.wire.specs.BigEndian.{numberAt, bytesOf}
-use Rattle.model.specs.Choice.{pick, _and_, tabulate, joined}
+use Rattle.model.specs.Choice.{pick, _and_, _or_, tabulate, joined}
 use Rattle.model.specs.declared.Found.{Found}
 use Rattle.model.specs.declared.Found.the-variants.{At, Nowhere}
 use Rattle.model.specs.declared.Removal.{Removal}
 use Rattle.model.specs.declared.Request.{Request}
 use Rattle.model.specs.declared.Request.the-variants.{Configure, Unconfigure, Query, Status, Cancel, Malformed}
-use Rattle.model.specs.Layout.{mostRecords, memoryHeaderBytes, pairBytes, blockAt, outstandingOf, isSet, removalOf, withConfigured, withRemoval}
+use Rattle.model.specs.Layout.{mostRecords, memoryHeaderBytes, pairBytes, blockAt, outstandingOf, numberedAt, highestAt, isSet, removalOf, withConfigured, withRemoval, withNumber}
 use Rattle.model.specs.Blocks.{pageSize, namedBlock}
 use Rattle.model.specs.Journal.{codeNone, codeError, codeBlocked, answeredEvent, configuredEvent, begunEvent, cancelledEvent}
 use Rattle.model.specs.Messages.{Effect, effect, dsData}
@@ -286,6 +286,23 @@ requested s c handle request b Status = reporting s c handle request
 requested s c handle request b Cancel = cancelling s c handle request
 requested s c handle request b Malformed = answeringError s c handle request
 
--- what the memory service does with the bytes b under a handle of channel c
+-- 02, ticket 4. A request of right form: whatever is not answered ERROR for its form.
+abbrev pub rightForm : Request → Bool
+rightForm (Configure n) = true
+rightForm (Unconfigure n) = true
+rightForm (Query n) = true
+rightForm Status = true
+rightForm Cancel = true
+rightForm Malformed = false
+
+-- "above all earlier ones of right form" on channel c's registration; "The first request after a registration may have any number."
+unfoldable pub rises : List ℕ → ℕ → ℕ → Bool
+rises s c number = not (isSet (numberedAt s c)) or ltb (highestAt s c) number
+
+-- What the memory service does with the bytes b under a handle of channel c: "a memory request whose number is not above all earlier ones of right form is
+-- answered ERROR with its number, before BLOCKED is considered"; one of right form that rises is the highest now. (So `requested` is given no `Malformed`.)
 unfoldable pub answeredMemory : List ℕ → ℕ → ℕ → List ℕ → Effect
-answeredMemory s c handle b = requested s c handle (requestNumber b) b (requestOf b)
+answeredMemory s c handle b =
+    pick (rightForm (requestOf b) and rises s c (requestNumber b))
+    (requested (withNumber s c 1 (requestNumber b)) c handle (requestNumber b) b (requestOf b))
+    (answeringError s c handle (requestNumber b))

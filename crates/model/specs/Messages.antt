@@ -13,7 +13,7 @@ use Rattle.model.specs.declared.Route.{Route}
 use Rattle.model.specs.declared.Route.the-variants.{Memory, Host}
 use Rattle.model.specs.declared.Message.{Message}
 use Rattle.model.specs.declared.Message.the-variants.{InitReq, RegReq, RegAck, RegNack, Unreg, UnregAck, UnregNack, Data, Nack, Bad}
-use Rattle.model.specs.Layout.{serviceCount, memoryService, dsHeaderBytes, stageIdle, stageOffered, stageRegistered, placeOf, stageAt, handleAt, lastOf, withChannel, withService}
+use Rattle.model.specs.Layout.{serviceCount, memoryService, dsHeaderBytes, stageIdle, stageOffered, stageRegistered, placeOf, stageAt, handleAt, lastOf, withChannel, withService, withNumber}
 use Rattle.model.specs.State.{ourHandle}
 use Rattle.model.specs.declared.Event.{Event}
 use Rattle.model.specs.Journal.{readyEvent, closedEvent, versionRefusedEvent, offeredEvent, registeredEvent, offerRefusedEvent, serviceEndedEvent, notedEvent}
@@ -249,11 +249,15 @@ initiated s c major =
     (effect (readyEvent c) (withChannel s c 1) (initAck 0))
     (effect (versionRefusedEvent c major) (withChannel s c 0) (initNack (pick (eqb major 0) 0 1)))
 
+-- 02, ticket 4, "The first request after a registration may have any number": service 0's registration on channel c begins without a highest one
+unfoldable pub numbersAnew : List ℕ → ℕ → ℕ → List ℕ
+numbersAnew s c v = pick (eqb v memoryService) (withNumber s c 0 0) s
+
 -- "REG_ACK for an offered handle registers it with the lower of the two minors .. Any other of these is only noted."
 unfoldable pub acknowledged : List ℕ → ℕ → ℕ → ℕ → Found → Effect
 acknowledged s c handle minor (At v) =
     effect (registeredEvent c v (min (serviceOf v .minor) minor) handle)
-    (withRegistered s c v handle (min (serviceOf v .minor) minor))
+    (withRegistered (numbersAnew s c v) c v handle (min (serviceOf v .minor) minor))
     []
 acknowledged s c handle minor Nowhere = noting s c DS-REG-ACK []
 

@@ -1,7 +1,7 @@
--- "A state is sound if ..". Beyond 01's sentence a word that no reading could mean (a flag above 1, a stage above 2, a registered minor
+-- "A state is sound if ..". Beyond 01's sentence a word that no reading could mean (a ready, configured, outstanding or cancelled flag above 1, a stage above 2, a registered minor
 -- above 65,535, a settled record's result other than OK or NOWORK) makes a state not sound. Words without a meaning in the present state (an idle
 -- service's handle and minor, an offered one's minor, blocks past the count, a removal's words while none is outstanding, its records past
--- the count, results from the position on) are free.
+-- the count, results from the position on) are free, and so are the words of request numbers, in which any number means something.
 -- Assumes nothing.
 use Prim.Native.Nat.{ℕ, _/_}
 use mathlib.Core.Bool.{Bool, not}

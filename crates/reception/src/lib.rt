@@ -40,7 +40,7 @@ fn deliver(
     payload: &[u8],
     out: &mut [u8],
 ) -> Handled
-    requires { ⌜ (sound (now state) ≡ true) × (outputBytes ≤ length (now out)) ⌝ }
+    requires { ⌜ (sound (now state) ≡ true) × (outputBytes ≤ length (now out)) × (channel < channelCount) ⌝ }
     ensures { λ r. ⌜ Handles (dataFor (now (state .entry)) channel handle (now (payload .entry)) (At service)) (now (out .entry)) (r .length) (r .event) (now (state .exit)) (now (out .exit)) ⌝ }
 {
     let route = services::route(service);

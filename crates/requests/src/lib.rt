@@ -13,7 +13,7 @@ ghost use Prim.Native.Nat.{_+_, _*_, _≤_, _<_};
 ghost use lib.ListN.{length};
 ghost use Rattle.wire.specs.BigEndian.{numberAt};
 ghost use Rattle.model.specs.Choice.{tabulate};
-ghost use Rattle.model.specs.Memory.{DR-MEM-UNCONF-STATUS, DR-MEM-UNCONF-CANCEL, requestNumber, addrIn, sizeIn, hasRecords, hasNothing, requestOf};
+ghost use Rattle.model.specs.Memory.{DR-MEM-UNCONF-STATUS, DR-MEM-UNCONF-CANCEL, requestNumber, addrIn, sizeIn, hasRecords, hasNothing, requestOf, rightForm};
 ghost use Rattle.model.specs.Layout.{memoryHeaderBytes, pairBytes, mostRecords};
 
 // The address of record `i`.
@@ -100,6 +100,20 @@ fn decode_records(b: &[u8], kind: u32) -> Request
         return Request::Query { records: n };
     }
     Request::Malformed
+}
+
+// Whatever is not answered ERROR for its form.
+pub fn right_form(asked: Request) -> bool
+    ensures { λ r. ⌜ r ≡ rightForm asked ⌝ }
+{
+    match asked {
+        Request::Configure { records: _ } => true,
+        Request::Unconfigure { records: _ } => true,
+        Request::Query { records: _ } => true,
+        Request::Status => true,
+        Request::Cancel => true,
+        Request::Malformed => false,
+    }
 }
 
 // "the same req_num (0 if under 16 bytes)"

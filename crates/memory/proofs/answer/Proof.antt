@@ -1,10 +1,9 @@
--- `memory::answer` meets its contract: each request by its own function; a request with records has at most 16, and all their bytes.
+-- `memory::answer` meets its contract: ERROR for the form, or for a number that does not rise; else the request, on the state that has its number.
 -- Assumes nothing.
 use native.Mathlib.Omega.{arith}
-use Rattle.model.specs.declared.Request.the-variants.{Configure, Unconfigure, Query}
-use Rattle.model.specs.Memory.{requested, answeredMemory}
-use Rattle.model.proofs.Search.{sound-in-order}
-use Rattle.memory.proofs.Laws.{formed}
+use Rattle.model.proofs.Loops.{no, yes}
+use Rattle.model.proofs.Sounds.{sound-numbers}
+use Rattle.memory.proofs.Laws.{form-error, number-error, number-risen}
 use borrow.Author.Needs.{needs}
 use Rattle.memory.proofs.answer.Statement.{statement}
 use Rattle.memory.proofs.answer.Tie as tie
@@ -15,38 +14,8 @@ number-requires c κs = search needs
 decode-requires : tie.Need-decode-requires
 decode-requires c κs = search needs
 
-enum-known-asked : tie.Need-enum-known-asked
-enum-known-asked c = search needs
-
-hear-configure-requires : tie.Need-hear-configure-requires
-hear-configure-requires c κs = let k = formed _ (Configure _) (c .before .before .before .before .before .decode .ensures) (c .before .before .before .asked .given .1) in (sound-in-order _ (c .before .before .before .before .before .before .before .before .before .pre .0), k .0, k .1, omega arith)
-
-enum-known-asked-2 : tie.Need-enum-known-asked-2
-enum-known-asked-2 c = search needs
-
-hear-unconfigure-requires : tie.Need-hear-unconfigure-requires
-hear-unconfigure-requires c κs = let k = formed _ (Unconfigure _) (c .before .before .before .before .before .decode .ensures) (c .before .before .before .asked2 .given .1) in (sound-in-order _ (c .before .before .before .before .before .before .before .before .before .pre .0), k .0, k .1, omega arith)
-
-enum-known-asked-3 : tie.Need-enum-known-asked-3
-enum-known-asked-3 c = search needs
-
-query-requires : tie.Need-query-requires
-query-requires c κs = let k = formed _ (Query _) (c .before .before .before .before .before .decode .ensures) (c .before .before .before .asked3 .given .1) in (c .before .before .before .before .before .before .before .before .before .pre .0, k .0, k .1, omega arith)
-
-enum-told : tie.Need-enum-told
-enum-told c = search needs
-
-report-requires : tie.Need-report-requires
-report-requires c κs = search needs
-
-enum-told-2 : tie.Need-enum-told-2
-enum-told-2 c = search needs
-
-cancel-requires : tie.Need-cancel-requires
-cancel-requires c κs = search needs
-
-enum-told-3 : tie.Need-enum-told-3
-enum-told-3 c = search needs
+right-form-requires : tie.Need-right-form-requires
+right-form-requires c κs = search needs
 
 error-requires : tie.Need-error-requires
 error-requires c κs = search needs
@@ -55,43 +24,38 @@ same-length : tie.Need-same-length
 same-length c = search needs
 
 returns : tie.Need-returns
-unfolding answeredMemory
-returns c = rw (← c .before .before .before .before .before .before .before .before .before .number .ensures, ← c .before .before .before .before .before .before .before .before .decode .ensures, c .before .before .before .before .before .before .asked .given .1) (c .before .before .hear-configure .ensures)
+returns c =
+    rw (← form-error _ _ _ _ (c .before .before .before .before .before .before .before .number .ensures) (c .before .before .before .before .before .before .decode .ensures) (no _ (c .before .before .before .before .before .right-form .ensures) (c .before .before .before .before .if1 .taken)))
+    (c .before .before .error .ensures _)
+
+rises-requires : tie.Need-rises-requires
+rises-requires c κs = search needs
+
+error-requires-2 : tie.Need-error-requires-2
+error-requires-2 c κs = search needs
 
 same-length-2 : tie.Need-same-length-2
 same-length-2 c = search needs
 
 returns-2 : tie.Need-returns-2
-unfolding answeredMemory
-returns-2 c = rw (← c .before .before .before .before .before .before .before .before .before .number .ensures, ← c .before .before .before .before .before .before .before .before .decode .ensures, c .before .before .before .before .before .before .asked2 .given .1) (c .before .before .hear-unconfigure .ensures)
+returns-2 c =
+    rw (← number-error _ _ _ _ (c .before .before .before .before .before .before .before .before .before .before .number .ensures) (c .before .before .before .before .before .before .before .before .before .decode .ensures) (no _ (c .before .before .before .before .before .rises .ensures) (c .before .before .before .before .if2 .taken)))
+    (c .before .before .error2 .ensures _)
+
+set-number-requires : tie.Need-set-number-requires
+set-number-requires c κs = search needs
+
+dispatch-requires : tie.Need-dispatch-requires
+dispatch-requires c κs =
+    (rw (c .before .before .set-number .ensures) (sound-numbers _ _ _ _ (c .before .before .before .before .before .before .before .before .before .before .before .before .before .pre .0)), omega (arith, c .before .before .before .before .before .before .before .before .before .before .before .before .before .pre .1), c .before .before .before .before .before .before .before .before .before .decode .ensures)
 
 same-length-3 : tie.Need-same-length-3
 same-length-3 c = search needs
 
 returns-3 : tie.Need-returns-3
-unfolding answeredMemory requested
-returns-3 c = rw (← c .before .before .before .before .before .before .before .before .before .number .ensures, ← c .before .before .before .before .before .before .before .before .decode .ensures, c .before .before .before .before .before .before .asked3 .given .1) (c .before .before .query .ensures)
-
-same-length-4 : tie.Need-same-length-4
-same-length-4 c = search needs
-
-returns-4 : tie.Need-returns-4
-unfolding answeredMemory requested
-returns-4 c = rw (← c .before .before .before .before .before .before .before .before .number .ensures, ← c .before .before .before .before .before .before .before .decode .ensures, c .before .before .before .before .before .enum-told .given .1) (c .before .before .report .ensures)
-
-same-length-5 : tie.Need-same-length-5
-same-length-5 c = search needs
-
-returns-5 : tie.Need-returns-5
-unfolding answeredMemory requested
-returns-5 c = rw (← c .before .before .before .before .before .before .before .before .number .ensures, ← c .before .before .before .before .before .before .before .decode .ensures, c .before .before .before .before .before .enum-told2 .given .1) (c .before .before .cancel .ensures)
-
-same-length-6 : tie.Need-same-length-6
-same-length-6 c = search needs
-
-returns-6 : tie.Need-returns-6
-unfolding answeredMemory requested
-returns-6 c = rw (← c .before .before .before .before .before .before .before .number .ensures, ← c .before .before .before .before .before .before .decode .ensures, c .before .before .before .before .enum-told3 .given .1) (c .before .before .error .ensures _)
+returns-3 c =
+    rw (← number-risen _ _ _ _ (c .before .before .before .before .before .before .before .before .before .before .before .before .before .number .ensures) (c .before .before .before .before .before .before .before .before .before .before .before .before .decode .ensures) (yes _ (c .before .before .before .before .before .before .before .before .before .before .before .right-form .ensures) (c .before .before .before .before .before .before .before .before .before .before .if1 .left)) (yes _ (c .before .before .before .before .before .before .before .before .rises .ensures) (c .before .before .before .before .before .before .before .if2 .left)), ← c .before .before .before .before .before .set-number .ensures)
+    (c .before .before .dispatch .ensures)
 
 pub answer-spec : {M : Type 1} → statement M
 answer-spec =
@@ -99,27 +63,15 @@ answer-spec =
     (tie.spec
     number-requires
     decode-requires
-    enum-known-asked
-    hear-configure-requires
-    enum-known-asked-2
-    hear-unconfigure-requires
-    enum-known-asked-3
-    query-requires
-    enum-told
-    report-requires
-    enum-told-2
-    cancel-requires
-    enum-told-3
+    right-form-requires
     error-requires
     same-length
     returns
+    rises-requires
+    error-requires-2
     same-length-2
     returns-2
+    set-number-requires
+    dispatch-requires
     same-length-3
-    returns-3
-    same-length-4
-    returns-4
-    same-length-5
-    returns-5
-    same-length-6
-    returns-6)
+    returns-3)
