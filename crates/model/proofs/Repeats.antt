@@ -3,30 +3,32 @@
 use Prim.Native.Nat.{ℕ, _+_, _*_, _%_, _^_, _≤_, _<_}
 use native.Mathlib.Omega.{arith}
 use mathlib.Core.Path.{_≡_, refl, sym, ap, _∙_}
-use mathlib.Core.Bool.{true}
-use mathlib.Core.List.{List, _++_, append-assoc}
+use mathlib.Core.Bool.{true, false}
+use mathlib.Core.List.{List, [], _++_, append-assoc}
 use lib.ListN.{length, getD, set, take, drop}
 use lib.Seq.{getD-set-same, take-at, drop-at}
 use lib.Dec.{eqb}
-use borrow.Author.Tests.{eqb-true}
+use borrow.Author.Tests.{eqb-true, le-leb, le-ltb, eq-eqb}
 use Rattle.wire.specs.BigEndian.{bytesOf, numberAt}
 use Rattle.wire.proofs.Laws.{length-bytes, number-of-bytes}
-use Rattle.model.specs.Choice.{pick}
+use Rattle.model.specs.Choice.{pick, _and_, isFound, tabulate}
 use Rattle.model.specs.declared.Event.{Event}
 use Rattle.model.specs.declared.Found.the-variants.{At}
-use Rattle.model.specs.Layout.{memoryService, replyHeaderBytes, resultBytes, queryBytes, blockAt, outstandingOf, removalOf, mostRecords, stateWords}
-use Rattle.model.specs.Journal.{kindSettled, codeNone}
-use Rattle.model.specs.declared.Request.the-variants.{Configure, Query}
-use Rattle.model.specs.Memory.{DR-MEM-OK, DR-MEM-RES-FAILURE, DR-MEM-RES-NOWORK, Progress, addrIn, sizeIn, answeredMemory, answering, answeringConfigure, answeringError, blocked, configureReply, configuredBy, queryRecord, querying, requestNumber, requestOf, requested, resultRecord}
-use Rattle.model.specs.Messages.{Effect}
+use Rattle.model.specs.Layout.{memoryService, replyHeaderBytes, resultBytes, queryBytes, blockAt, outstandingOf, removalOf, mostRecords, stateWords, memoryHeaderBytes, isSet, outstandingWord, mostBlocks, blocksOf, withRemoval}
+use Rattle.model.specs.Journal.{kindSettled, begunEvent}
+use Rattle.model.specs.declared.Request.the-variants.{Configure, Query, Unconfigure}
+use Rattle.model.specs.Memory.{DR-MEM-OK, DR-MEM-RES-NOWORK, Progress, addrIn, sizeIn, answeredMemory, answering, answeringConfigure, blocked, configureReply, configuredBy, queryRecord, querying, requestNumber, requestOf, requested, resultRecord, hasRecords, DR-MEM-CONFIGURE, DR-MEM-UNCONFIGURE, DR-MEM-QUERY, rightForm, rises, newRemoval, beginning}
+use Rattle.model.specs.Messages.{Effect, effect}
 use Rattle.model.specs.Work.{blockNow, settled}
 use Rattle.model.specs.Calls.{Outcome, accepted, act, receive, work, effectOf, outcome, pagesOf, refusalOf}
 use Rattle.model.specs.Reading.{View, setupView}
-use Rattle.model.specs.Blocks.{setupState}
+use Rattle.model.specs.Blocks.{setupState, namedBlock}
 use Rattle.model.specs.Demand3.{Run, Done, newRun, runs, noted, reached, replyOf}
 use Rattle.model.specs.Contracts.{AllMeet, OfEveryList}
-use Rattle.model.specs.Repeats.{Repeat, Repeats, Answered, requestIn, SettledNowork, addressAt, sizeAt, isUnconfigured, settledUnconfigured, resultIn, answerIn}
-use Rattle.model.proofs.Choice.{on-pick}
+use Rattle.model.specs.Repeats.{Repeat, Repeats, Requests, Hears, Begun, requestIn, SettledNowork, addressAt, sizeAt, isUnconfigured, settledUnconfigured, resultIn, answerIn}
+use Rattle.model.specs.declared.Request.{Request}
+use Rattle.model.proofs.Turns.{SameRemoval, same-blocks, new-removal}
+use Rattle.model.proofs.Choice.{on-pick, tabulate-at, pick-false}
 use Rattle.model.proofs.Words.{loaded-arrays}
 use Rattle.model.proofs.View.{shape-moves}
 use Rattle.model.proofs.Steps.{Step, adds, nowork, ok, ends, step-of}
@@ -34,7 +36,7 @@ use Rattle.model.proofs.Replies.{behind, record-stands, result-length, 
 use Rattle.model.proofs.Rules.{sound-facts}
 use Rattle.model.proofs.Rules.{Given}
 use Rattle.model.proofs.Effects.{shape, number-only, given-numbers}
-use Rattle.model.proofs.MemoryEffects.{numbered}
+use Rattle.model.proofs.MemoryEffects.{numbered, new-arrays}
 use Rattle.model.proofs.Configured.{repeat-result}
 use Rattle.model.proofs.Calls.{taken, on-accepted}
 use Rattle.model.proofs.Kept.{noted-is}
@@ -98,91 +100,125 @@ result-in p handle request b n i h =
         ∙ behind (bytesOf 8 size) _ 8 0 4 (length-bytes 8 size)
         ∙ number-of-bytes 4 result _))
 
--- a request of right form that is not answered ERROR
-not-error : (P : Effect → Type 0) (s : List ℕ) (c handle : ℕ) (b : List ℕ) → answeredMemory s c handle b .event .code ≡ codeNone → (requested (numbered s c b) c handle (requestNumber b) b (requestOf b) .event .code ≡ codeNone → P (requested (numbered s c b) c handle (requestNumber b) b (requestOf b))) → P (answeredMemory s c handle b)
-unfolding answeredMemory answeringError answering
-not-error P s c handle b z f =
-    on-pick (λ (x : Effect). x .event .code ≡ codeNone → P x) _ _ _ (λ o y. f y) (λ o y. absurd (omega arith)) z
+-- A request by its bytes is what the decoder says.
+module _ (b : List ℕ) (type n : ℕ) (q : Requests b type n) where
+  long : memoryHeaderBytes ≤ length b
+  long = omega (arith, q .whole)
 
--- what the memory service replies to a CONFIGURE that it does not block, and to a QUERY
-configure-replies : (s : List ℕ) (c handle : ℕ) (b : List ℕ) (n : ℕ) → requestOf b ≡ Configure n → (i : ℕ) → i < n → answeredMemory s c handle b .event .code ≡ codeNone → resultIn (answeredMemory s c handle b .reply) i ≡ getD (configuredBy (numbered s c b) b n .results) i 0 % 256 ^ 4
-configure-replies s c handle b n e i h z =
-    not-error (λ (x : Effect). resultIn (x .reply) i ≡ getD (configuredBy (numbered s c b) b n .results) i 0 % 256 ^ 4) s c handle b z (rw e go)
-  where
-    t : List ℕ
-    t = numbered s c b
+  has-records : hasRecords b ≡ true
+  unfolding hasRecords _and_
+  has-records = rw (q .argument, le-leb 1 n (q .some), le-leb n mostRecords (q .few), eq-eqb _ _ (q .whole))
 
-    go : requested (numbered s c b) c handle (requestNumber b) b (Configure n) .event .code ≡ codeNone → resultIn (requested (numbered s c b) c handle (requestNumber b) b (Configure n) .reply) i ≡ getD (configuredBy (numbered s c b) b n .results) i 0 % 256 ^ 4
-    go =
-        unfold requested blocked answering answeringConfigure in
-        (on-pick (λ (x : Effect). x .event .code ≡ codeNone → resultIn (x .reply) i ≡ getD (configuredBy (numbered s c b) b n .results) i 0 % 256 ^ 4) _ _ _
-        (λ o y. absurd (omega arith))
-        (λ o y.
-        on-pick (λ (x : Effect). resultIn (x .reply) i ≡ getD (configuredBy (numbered s c b) b n .results) i 0 % 256 ^ 4) _ _ _
-        (λ q. result-in (configuredBy (numbered s c b) b n) handle (requestNumber b) b n i h)
-        (λ q. result-in (configuredBy (numbered s c b) b n) handle (requestNumber b) b n i h)))
+  is-configure : type ≡ DR-MEM-CONFIGURE → requestOf b ≡ Configure n
+  unfolding requestOf pick _and_
+  is-configure e = rw (le-ltb _ _ long, q .isType, e, has-records, q .argument)
 
-query-replies : (s : List ℕ) (c handle : ℕ) (b : List ℕ) (n : ℕ) → requestOf b ≡ Query n → (i : ℕ) → i < n → answeredMemory s c handle b .event .code ≡ codeNone → answerIn (answeredMemory s c handle b .reply) i ≡ queryRecord (numbered s c b) (addrIn b i) (sizeIn b i)
-query-replies s c handle b n e i h z =
-    not-error (λ (x : Effect). answerIn (x .reply) i ≡ queryRecord (numbered s c b) (addrIn b i) (sizeIn b i)) s c handle b z (λ _. rw e go)
-  where
-    go : answerIn (requested (numbered s c b) c handle (requestNumber b) b (Query n) .reply) i ≡ queryRecord (numbered s c b) (addrIn b i) (sizeIn b i)
-    go =
-        unfold requested querying answering in
-        (let x =
-        record-stands handle DR-MEM-OK n (requestNumber b) n i queryBytes (λ i. queryRecord (numbered s c b) (addrIn b i) (sizeIn b i)) (λ i. query-length (numbered s c b) (addrIn b i) (sizeIn b i)) h in
-        rw (x .parts, drop-at (x .before) _ (replyHeaderBytes + i * queryBytes) (x .long))
-        (take-at (queryRecord (numbered s c b) (addrIn b i) (sizeIn b i)) (x .after) queryBytes (query-length (numbered s c b) (addrIn b i) (sizeIn b i))))
+  is-unconfigure : type ≡ DR-MEM-UNCONFIGURE → requestOf b ≡ Unconfigure n
+  unfolding requestOf pick _and_
+  is-unconfigure e = rw (le-ltb _ _ long, q .isType, e, has-records, q .argument)
 
--- A memory request that is answered neither ERROR nor BLOCKED.
-module _ (s j out : List ℕ) (c handle : ℕ) (m : List ℕ) (r : Outcome) (size : length s ≡ stateWords) (same : r ≡ outcome s j (act (receive c m) out)) (a : Answered m handle r) where
-  -- what the memory service did
-  abbrev done : Effect
-  done = answeredMemory s c handle (requestIn m)
+  is-query : type ≡ DR-MEM-QUERY → requestOf b ≡ Query n
+  unfolding requestOf pick _and_
+  is-query e = rw (le-ltb _ _ long, q .isType, e, has-records, q .argument)
 
-  record Answers : Type 0 where
-    given : Given s
-    replies : replyOf r ≡ done .reply
-    code : done .event .code ≡ codeNone
+-- one of right form whose number rises is carried out
+risen-answer : (s : List ℕ) (c handle : ℕ) (b : List ℕ) (x : Request) → requestOf b ≡ x → rightForm x ≡ true → rises s c (requestNumber b) ≡ true → answeredMemory s c handle b ≡ requested (numbered s c b) c handle (requestNumber b) b x
+unfolding answeredMemory pick _and_
+risen-answer s c handle b x e f h = rw (e, f, h)
 
-  answers : Answers
-  answers =
-      on-accepted (λ x. x ≡ r → Answers) s j out (receive c m) r same (a .accepted) go refl
+-- while none is outstanding
+module _ (s : List ℕ) (c handle request : ℕ) (b : List ℕ) (n : ℕ) (o : isSet (outstandingOf s) ≡ false) where
+  configure-reply : requested s c handle request b (Configure n) .reply ≡ configureReply (configuredBy s b n) handle request b n
+  unfolding requested answeringConfigure answering
+  configure-reply =
+      rw (pick-false (isSet (outstandingOf s)) (blocked s c handle request b n) (answeringConfigure (configuredBy s b n) c handle request b n) o)
+      (on-pick (λ (e : Effect). e .reply ≡ configureReply (configuredBy s b n) handle request b n) _ _ _ (λ _. refl) (λ _. refl))
+
+  unconfigure-is : requested s c handle request b (Unconfigure n) ≡ effect (begunEvent c n request) (withRemoval s (newRemoval c handle request b n)) []
+  unfolding requested beginning pick
+  unconfigure-is = rw o
+
+-- A memory request that is heard, and whose number rises.
+module _ (s j out : List ℕ) (c handle : ℕ) (m : List ℕ) (r : Outcome) (size : length s ≡ stateWords) (same : r ≡ outcome s j (act (receive c m) out)) (a : Hears s c m handle r) where
+  record Answers (e : Effect) : Type 0 where
+    few : blocksOf s ≤ mostBlocks
+    given : Given (numbered s c (requestIn m))
+    replies : replyOf r ≡ e .reply
+    tells : noted r ≡ e .event
+    removal : SameRemoval (e .state) (r .state)
+
+  answers : (x : Request) → requestOf (requestIn m) ≡ x → rightForm x ≡ true → Answers (requested (numbered s c (requestIn m)) c handle (requestNumber (requestIn m)) (requestIn m) x)
+  answers x q f =
+      on-accepted (λ o. o ≡ r → Answers (requested (numbered s c (requestIn m)) c handle (requestNumber (requestIn m)) (requestIn m) x)) s j out (receive c m) r same (a .accepted) go refl
     where
-      go : refusalOf s j out (receive c m) ≡ 0 → accepted s j out (pagesOf s (receive c m)) (effectOf s (receive c m)) ≡ r → Answers
+      go : refusalOf s j out (receive c m) ≡ 0 → accepted s j out (pagesOf s (receive c m)) (effectOf s (receive c m)) ≡ r → Answers (requested (numbered s c (requestIn m)) c handle (requestNumber (requestIn m)) (requestIn m) x)
       go y e =
           let t = taken s j out (receive c m) size y in
           let tells : reachedBy handle (effectOf s (receive c m)) ≡ At memoryService =
           sym (reached-of s j out (pagesOf s (receive c m)) (effectOf s (receive c m)) t handle) ∙ ap (reached handle) e ∙ a .reaches in
-          let is : effectOf s (receive c m) ≡ done = memory-answers s c handle m (a .isData) tells in
+          let is : effectOf s (receive c m) ≡ requested (numbered s c (requestIn m)) c handle (requestNumber (requestIn m)) (requestIn m) x =
+          memory-answers s c handle m (a .isData) tells ∙ risen-answer s c handle (requestIn m) x q f (a .isHigher) in
           record {
-            given = t .given;
+            few = t .given .facts .base .few;
+            given = given-numbers s (numbered s c (requestIn m)) (number-only s c 1 (requestNumber (requestIn m))) (t .given);
             replies = ap replyOf (sym e) ∙ reply-is s j out (pagesOf s (receive c m)) (effectOf s (receive c m)) ∙ ap (λ (x : Effect). x .reply) is;
-            code =
-                ap (λ (x : Effect). x .event .code) (sym is)
-                ∙ ap (λ (v : Event). v .code) (sym (noted-is s j out (pagesOf s (receive c m)) (effectOf s (receive c m)) t))
-                ∙ ap (λ (x : Outcome). noted x .code) e
-                ∙ a .noCode;
+            tells = ap noted (sym e) ∙ noted-is s j out (pagesOf s (receive c m)) (effectOf s (receive c m)) t ∙ ap (λ (x : Effect). x .event) is;
+            removal = rw (← e, ← is) (accepted-removal s j out (pagesOf s (receive c m)) (effectOf s (receive c m)));
           }
 
-  -- CONFIGURE is not blocked, and its reply has the results of its records
-  configure-result : (n : ℕ) → requestOf (requestIn m) ≡ Configure n → (i : ℕ) → i < n → resultIn (replyOf r) i ≡ getD (configuredBy (numbered s c (requestIn m)) (requestIn m) n .results) i 0 % 256 ^ 4
-  configure-result n e i h = rw (answers .replies) (configure-replies s c handle (requestIn m) n e i h (answers .code))
+  -- none is outstanding
+  none-now : outstandingOf s ≡ 0 → isSet (outstandingOf (numbered s c (requestIn m))) ≡ false
+  none-now o = rw (number-only s c 1 (requestNumber (requestIn m)) .below outstandingWord (omega arith) (omega arith), o)
 
-  query-answer : (n : ℕ) → requestOf (requestIn m) ≡ Query n → (i : ℕ) → i < n → answerIn (replyOf r) i ≡ queryRecord (numbered s c (requestIn m)) (addrIn (requestIn m) i) (sizeIn (requestIn m) i)
-  query-answer n e i h = rw (answers .replies) (query-replies s c handle (requestIn m) n e i h (answers .code))
+  -- a repeat in a CONFIGURE
+  configures-nowork : (n k i : ℕ) → Requests (requestIn m) DR-MEM-CONFIGURE n → outstandingOf s ≡ 0 → i < n → Repeat (addrIn (requestIn m)) (sizeIn (requestIn m)) k i → ((q : ℕ) → q < i → isFound (namedBlock s (addrIn (requestIn m) q) (sizeIn (requestIn m) q)) ≡ true) → resultIn (replyOf r) i ≡ DR-MEM-RES-NOWORK
+  configures-nowork n k i q o h again f =
+      let x = answers (Configure n) (is-configure (requestIn m) DR-MEM-CONFIGURE n q refl) refl in
+      let same = same-blocks s (numbered s c (requestIn m)) (x .few) (λ j lo hi. number-only s c 1 (requestNumber (requestIn m)) .below j (omega arith) (omega arith)) .sizes .named in
+      rw (x .replies, configure-reply (numbered s c (requestIn m)) c handle (requestNumber (requestIn m)) (requestIn m) n (none-now o))
+      (result-in (configuredBy (numbered s c (requestIn m)) (requestIn m) n) handle (requestNumber (requestIn m)) (requestIn m) n i h
+      ∙ ap (λ (y : ℕ). y % 256 ^ 4)
+      (repeat-result (numbered s c (requestIn m)) (x .given) (requestIn m) n k i h (again .earlier) (again .sameAddress) (again .sameSize)
+      (λ p l. rw (same (addrIn (requestIn m) p) (sizeIn (requestIn m) p)) (f p l))))
 
-  -- a repeat before any failure
-  configures-nowork : (n k i : ℕ) → requestOf (requestIn m) ≡ Configure n → i < n → Repeat (addrIn (requestIn m)) (sizeIn (requestIn m)) k i → ((q : ℕ) → q < i → resultIn (replyOf r) q ≡ DR-MEM-RES-FAILURE → ⊥) → resultIn (replyOf r) i ≡ DR-MEM-RES-NOWORK
-  configures-nowork n k i e h again f =
-      configure-result n e i h
-      ∙ ap (λ (x : ℕ). x % 256 ^ 4)
-      (repeat-result (numbered s c (requestIn m)) (given-numbers s (numbered s c (requestIn m)) (number-only s c 1 (requestNumber (requestIn m))) (answers .given)) (requestIn m) n k i h (again .earlier) (again .sameAddress) (again .sameSize)
-      (λ q l y. f q l (configure-result n e q (omega arith) ∙ ap (λ (x : ℕ). x % 256 ^ 4) y)))
+  -- an UNCONFIGURE
+  begins-all : (n : ℕ) → Requests (requestIn m) DR-MEM-UNCONFIGURE n → outstandingOf s ≡ 0 → Begun (requestIn m) n r
+  begins-all n q o =
+      let x = answers (Unconfigure n) (is-unconfigure (requestIn m) DR-MEM-UNCONFIGURE n q refl) refl in
+      let e = unconfigure-is (numbered s c (requestIn m)) c handle (requestNumber (requestIn m)) (requestIn m) n (none-now o) in
+      let w =
+      new-removal (numbered s c (requestIn m)) (newRemoval c handle (requestNumber (requestIn m)) (requestIn m) n) (x .given .size)
+      (new-arrays c handle (requestNumber (requestIn m)) (requestIn m) n) in
+      let one : outstandingOf (r .state) ≡ 1 = x .removal .outstanding ∙ ap (λ (y : Effect). outstandingOf (y .state)) e ∙ w .one in
+      let is : removalOf (r .state) ≡ newRemoval c handle (requestNumber (requestIn m)) (requestIn m) n =
+      x .removal .removal ∙ ap (λ (y : Effect). removalOf (y .state)) e ∙ w .removal in
+      record {
+        inEntry = ap (λ (v : Event). v .kind) (x .tells ∙ ap (λ (y : Effect). y .event) e);
+        outstanding = one;
+        count = rw is (unfold newRemoval in refl);
+        addresses = λ i h. rw is (unfold newRemoval in (tabulate-at (λ (i : ℕ). addrIn (requestIn m) i) mostRecords i 0 (omega (arith, q .few))));
+        sizes = λ i h. rw is (unfold newRemoval in (tabulate-at (λ (i : ℕ). sizeIn (requestIn m) i) mostRecords i 0 (omega (arith, q .few))));
+      }
 
-  queries-again : (n k i : ℕ) → requestOf (requestIn m) ≡ Query n → i < n → Repeat (addrIn (requestIn m)) (sizeIn (requestIn m)) k i → answerIn (replyOf r) i ≡ answerIn (replyOf r) k
-  queries-again n k i e h again =
-      query-answer n e i h ∙ sym (query-answer n e k (omega (arith, again .earlier)) ∙ rw (again .sameAddress, again .sameSize))
+  -- a repeat in a QUERY
+  query-answer : (n : ℕ) → Requests (requestIn m) DR-MEM-QUERY n → (i : ℕ) → i < n → answerIn (replyOf r) i ≡ queryRecord (numbered s c (requestIn m)) (addrIn (requestIn m) i) (sizeIn (requestIn m) i)
+  query-answer n q i h =
+      let x = answers (Query n) (is-query (requestIn m) DR-MEM-QUERY n q refl) refl in
+      rw (x .replies) go
+    where
+      go : answerIn (requested (numbered s c (requestIn m)) c handle (requestNumber (requestIn m)) (requestIn m) (Query n) .reply) i ≡ queryRecord (numbered s c (requestIn m)) (addrIn (requestIn m) i) (sizeIn (requestIn m) i)
+      go =
+          unfold requested querying answering in
+          (let x =
+          record-stands handle DR-MEM-OK n (requestNumber (requestIn m)) n i queryBytes (λ i. queryRecord (numbered s c (requestIn m)) (addrIn (requestIn m) i) (sizeIn (requestIn m) i)) (λ i. query-length (numbered s c (requestIn m)) (addrIn (requestIn m) i) (sizeIn (requestIn m) i)) h in
+          rw (x .parts, drop-at (x .before) _ (replyHeaderBytes + i * queryBytes) (x .long))
+          (take-at (queryRecord (numbered s c (requestIn m)) (addrIn (requestIn m) i) (sizeIn (requestIn m) i)) (x .after) queryBytes (query-length (numbered s c (requestIn m)) (addrIn (requestIn m) i) (sizeIn (requestIn m) i))))
+
+  queries-again : (n k i : ℕ) → Requests (requestIn m) DR-MEM-QUERY n → i < n → Repeat (addrIn (requestIn m)) (sizeIn (requestIn m)) k i → (answerIn (replyOf r) i ≡ answerIn (replyOf r) k) × (length (answerIn (replyOf r) i) ≡ queryBytes)
+  queries-again n k i q h again = (
+    query-answer n q i h ∙ sym (query-answer n q k (omega (arith, again .earlier)) ∙ rw (again .sameAddress, again .sameSize)),
+    ap length (query-answer n q i h) ∙ query-length (numbered s c (requestIn m)) (addrIn (requestIn m) i) (sizeIn (requestIn m) i),
+  )
 
 -- Every list: each call keeps the blocks of the settled records unconfigured.
 after-call : (b : View) (u : Run) → Kept b u → settledUnconfigured (u .state) ≡ true → AfterCall (λ v. settledUnconfigured (v .state) ≡ true) u
@@ -206,12 +242,18 @@ repeats l r j ds e z m = record {
       let here = all before (meets-before (newRun (r .state) j) before _ m′) in
       settles-nowork (runs (newRun (r .state) j) before .state) (runs (newRun (r .state) j) before .journal) out budget o (here .0 .size) (here .1)
       (meets-outcome (meets-here (newRun (r .state) j) before _ later m′)) y settles k again;
+  begins =
+      λ before later c handle msg out o n q a f none.
+      let m′ = rw q at m in
+      let here = all before (meets-before (newRun (r .state) j) before _ m′) in
+      begins-all (runs (newRun (r .state) j) before .state) (runs (newRun (r .state) j) before .journal) out c handle msg o (here .0 .size)
+      (meets-outcome (meets-here (newRun (r .state) j) before _ later m′)) a n f none;
   configures =
-      λ before later c handle msg out o n k i q a f h again d.
+      λ before later c handle msg out o n k i q a f none h again d.
       let m′ = rw q at m in
       let here = all before (meets-before (newRun (r .state) j) before _ m′) in
       configures-nowork (runs (newRun (r .state) j) before .state) (runs (newRun (r .state) j) before .journal) out c handle msg o (here .0 .size)
-      (meets-outcome (meets-here (newRun (r .state) j) before _ later m′)) a n k i f h again d;
+      (meets-outcome (meets-here (newRun (r .state) j) before _ later m′)) a n k i f none h again d;
   queries =
       λ before later c handle msg out o n k i q a f h again.
       let m′ = rw q at m in
