@@ -8,25 +8,27 @@ use mathlib.Core.List.{List, [], _++_, append-assoc}
 use lib.ListN.{length, getD, set, take, drop}
 use lib.Seq.{getD-set-same, take-at, drop-at}
 use lib.Dec.{eqb}
-use borrow.Author.Tests.{eqb-true, le-leb, le-ltb, eq-eqb}
+use borrow.Author.Tests.{le-leb, le-ltb, eq-eqb, lt-ltb}
 use Rattle.wire.specs.BigEndian.{bytesOf, numberAt}
 use Rattle.wire.proofs.Laws.{length-bytes, number-of-bytes}
-use Rattle.model.specs.Choice.{pick, _and_, isFound, tabulate}
+use Rattle.model.specs.Choice.{pick, _and_, isFound, tabulate, joined}
 use Rattle.model.specs.declared.Event.{Event}
 use Rattle.model.specs.declared.Found.the-variants.{At}
-use Rattle.model.specs.Layout.{memoryService, replyHeaderBytes, resultBytes, queryBytes, blockAt, outstandingOf, removalOf, mostRecords, stateWords, memoryHeaderBytes, isSet, outstandingWord, mostBlocks, blocksOf, withRemoval}
-use Rattle.model.specs.Journal.{kindSettled, begunEvent}
+use Rattle.model.specs.Layout.{memoryService, replyHeaderBytes, resultBytes, queryBytes, outstandingOf, removalOf, mostRecords, stateWords, memoryHeaderBytes, isSet, outstandingWord, mostBlocks, blocksOf, withRemoval}
+use Rattle.model.specs.Journal.{kindSettled, begunEvent, kindRemovalEnd}
 use Rattle.model.specs.declared.Request.the-variants.{Configure, Query, Unconfigure}
-use Rattle.model.specs.Memory.{DR-MEM-OK, DR-MEM-RES-NOWORK, Progress, addrIn, sizeIn, answeredMemory, answering, answeringConfigure, blocked, configureReply, configuredBy, queryRecord, querying, requestNumber, requestOf, requested, resultRecord, hasRecords, DR-MEM-CONFIGURE, DR-MEM-UNCONFIGURE, DR-MEM-QUERY, rightForm, rises, newRemoval, beginning}
+use Rattle.model.specs.Memory.{DR-MEM-OK, DR-MEM-RES-NOWORK, Progress, addrIn, sizeIn, answeredMemory, answering, answeringConfigure, blocked, configureReply, configuredBy, queryRecord, querying, requestNumber, requestOf, requested, resultRecord, hasRecords, DR-MEM-CONFIGURE, DR-MEM-UNCONFIGURE, DR-MEM-QUERY, rightForm, rises, newRemoval, beginning, memoryReply}
 use Rattle.model.specs.Messages.{Effect, effect}
-use Rattle.model.specs.Work.{blockNow, settled}
+use Rattle.model.specs.Work.{settled, WorkStep, working, ending, collects, pagesMoved, lateReply, resultAt}
 use Rattle.model.specs.Calls.{Outcome, accepted, act, receive, work, effectOf, outcome, pagesOf, refusalOf}
 use Rattle.model.specs.Reading.{View, setupView}
 use Rattle.model.specs.Blocks.{setupState, namedBlock}
 use Rattle.model.specs.Demand3.{Run, Done, newRun, runs, noted, reached, replyOf}
 use Rattle.model.specs.Contracts.{AllMeet, OfEveryList}
-use Rattle.model.specs.Repeats.{Repeat, Repeats, Requests, Hears, Begun, requestIn, SettledNowork, addressAt, sizeAt, isUnconfigured, settledUnconfigured, resultIn, answerIn}
+use Rattle.model.specs.Repeats.{Repeat, Repeats, Requests, Hears, Begun, requestIn, SettledNowork, addressAt, sizeAt, settledUnconfigured, resultIn, answerIn}
 use Rattle.model.specs.declared.Request.{Request}
+use Rattle.model.specs.declared.Removal.{Removal}
+use Rattle.model.proofs.WorkEffects.{on-step}
 use Rattle.model.proofs.Turns.{SameRemoval, same-blocks, new-removal}
 use Rattle.model.proofs.Choice.{on-pick, tabulate-at, pick-false}
 use Rattle.model.proofs.Words.{loaded-arrays}
@@ -45,23 +47,17 @@ use Rattle.model.proofs.Delivers.{reachedBy, reply-is, reached-of, memo
 use Rattle.model.proofs.Setup.{starts}
 use Rattle.model.proofs.Lists.{Kept, AfterCall, grown, shifted, on-list, meets-outcome}
 use Rattle.model.proofs.Demand3.{at-first, meets-before, meets-here}
-use Rattle.model.proofs.Settled.{settled-at, settled-none, settled-turn, settled-counted, accepted-removal}
+use Rattle.model.proofs.Settled.{settled-none, settled-turn, settled-counted, accepted-removal, NoworkKept, nowork-same, nowork-turn, counted-removal, repeat-unconfigured}
 
 -- what a step that settles a repeat does
 module _ (s : List ℕ) (q : settledUnconfigured s ≡ true) (few : removalOf s .count ≤ mostRecords) (k : ℕ) (again : Repeat (addressAt (removalOf s)) (sizeAt (removalOf s)) k (removalOf s .position)) where
-  -- its block is that of the earlier record
-  repeat-unconfigured : (i : ℕ) → outstandingOf s ≡ 1 → blockNow s (removalOf s) ≡ At i → blockAt s i .configured ≡ 0
-  unfolding isUnconfigured
-  repeat-unconfigured i one named =
-      eqb-true _ 0 (rw (again .sameAddress, again .sameSize, named) at (settled-at s q one k (again .earlier)))
-
   nowork-step : (e : Effect) → Step s e → outstandingOf s ≡ 1 → e .event .kind ≡ kindSettled → (e .event .code ≡ DR-MEM-RES-NOWORK) × (getD (removalOf (e .state) .result) (removalOf s .position) 0 ≡ DR-MEM-RES-NOWORK)
   nowork-step e (adds i n w b r d ev) o h = absurd (omega (arith, ap (λ (v : Event). v .kind) ev, h))
   nowork-step e (nowork i w b r z ev) o h = (
     ap (λ (v : Event). v .code) ev,
     rw (r .removal) (unfold settled in (getD-set-same (removalOf s .result) (removalOf s .position) DR-MEM-RES-NOWORK 0 (omega (arith, loaded-arrays s .results, w .more)))),
   )
-  nowork-step e (ok i n w b other now r d ev) o h = absurd (d (repeat-unconfigured i o (w .named)))
+  nowork-step e (ok i n w b other now r d ev) o h = absurd (d (repeat-unconfigured s q o k again i (w .named)))
   nowork-step e (ends b z y) o h = absurd (omega (arith, y, h))
 
 -- an accepted step that settles a repeat
@@ -81,24 +77,78 @@ settles-nowork s j out budget r size q same z settles k again =
           inState = rw (accepted-removal s j out (pagesOf s (work budget)) (effectOf s (work budget)) .removal) (p .1);
         }
 
--- The result of record i in a reply to CONFIGURE.
-result-in : (p : Progress) (handle request : ℕ) (b : List ℕ) (n i : ℕ) → i < n → resultIn (configureReply p handle request b n) i ≡ getD (p .results) i 0 % 256 ^ 4
-unfolding configureReply
-result-in p handle request b n i h =
+-- The result of record i in a reply of result records.
+records-in : (s : List ℕ) (addr size result : ℕ → ℕ) (handle request n i : ℕ) → i < n → resultIn (memoryReply handle DR-MEM-OK n request (joined (λ i. resultRecord s (addr i) (size i) (result i)) n)) i ≡ result i % 256 ^ 4
+records-in s addr size result handle request n i h =
     let x =
-    record-stands handle DR-MEM-OK n request n i resultBytes (λ i. resultRecord (p .state) (addrIn b i) (sizeIn b i) (getD (p .results) i 0))
-    (λ i. result-length (p .state) (addrIn b i) (sizeIn b i) (getD (p .results) i 0)) h in
+    record-stands handle DR-MEM-OK n request n i resultBytes (λ i. resultRecord s (addr i) (size i) (result i)) (λ i. result-length s (addr i) (size i) (result i)) h in
     rw (x .parts)
-    (behind (x .before) _ (replyHeaderBytes + i * resultBytes) 16 4 (x .long)
-    ∙ result-of (p .state) (addrIn b i) (sizeIn b i) (getD (p .results) i 0) (x .after))
+    (behind (x .before) _ (replyHeaderBytes + i * resultBytes) 16 4 (x .long) ∙ result-of (addr i) (size i) (result i) (x .after))
   where
-    result-of : (s : List ℕ) (addr size result : ℕ) (rest : List ℕ) → numberAt (resultRecord s addr size result ++ rest) 16 4 ≡ result % 256 ^ 4
-    result-of s addr size result rest =
+    result-of : (addr size result : ℕ) (rest : List ℕ) → numberAt (resultRecord s addr size result ++ rest) 16 4 ≡ result % 256 ^ 4
+    result-of addr size result rest =
         unfold resultRecord in
         (simp append-assoc
         (behind (bytesOf 8 addr) _ 8 8 4 (length-bytes 8 addr)
         ∙ behind (bytesOf 8 size) _ 8 0 4 (length-bytes 8 size)
         ∙ number-of-bytes 4 result _))
+
+-- of a reply to CONFIGURE
+result-in : (p : Progress) (handle request : ℕ) (b : List ℕ) (n i : ℕ) → i < n → resultIn (configureReply p handle request b n) i ≡ getD (p .results) i 0 % 256 ^ 4
+unfolding configureReply
+result-in p handle request b n i h =
+    records-in (p .state) (addrIn b) (sizeIn b) (λ i. getD (p .results) i 0) handle request n i h
+
+-- of the late reply, of a settled record
+late-result : (s : List ℕ) (m : Removal) (i : ℕ) → i < m .position → m .position ≤ m .count → resultIn (lateReply s m) i ≡ getD (m .result) i 0 % 256 ^ 4
+unfolding lateReply
+late-result s m i h w =
+    records-in s (addressAt m) (sizeAt m) (resultAt s m) (m .handle) (m .request) (m .count) i (omega arith)
+    ∙ ap (λ (x : ℕ). x % 256 ^ 4) settled-one
+  where
+    settled-one : resultAt s m i ≡ getD (m .result) i 0
+    settled-one = unfold resultAt pick in rw (lt-ltb i (m .position) h)
+
+-- the reply of an end that has one
+late-of : (s : List ℕ) (budget : ℕ) → working s budget .effects .event .kind ≡ kindRemovalEnd → working s budget .effects .event .count ≡ 1 → working s budget .effects .reply ≡ lateReply s (removalOf s)
+late-of s budget =
+    on-step (λ (x : WorkStep). x .effects .event .kind ≡ kindRemovalEnd → x .effects .event .count ≡ 1 → x .effects .reply ≡ lateReply s (removalOf s)) s (removalOf s) budget
+    (record {
+      onEnd =
+          unfold ending in
+          (on-pick (λ (e : Effect). e .event .kind ≡ kindRemovalEnd → e .event .count ≡ 1 → e .reply ≡ lateReply s (removalOf s)) _ _ _
+          (λ _ k n. refl)
+          (λ _ k n. absurd (omega arith)));
+      onNowork = λ i w z k n. absurd (omega arith);
+      onCollect = λ i w d. collected-late i;
+    })
+  where
+    collected-late : (i : ℕ) → collects s (removalOf s) i (pagesMoved s (removalOf s) i budget) .event .kind ≡ kindRemovalEnd → collects s (removalOf s) i (pagesMoved s (removalOf s) i budget) .event .count ≡ 1 → collects s (removalOf s) i (pagesMoved s (removalOf s) i budget) .reply ≡ lateReply s (removalOf s)
+    collected-late i =
+        unfold collects in
+        (on-pick (λ (e : Effect). e .event .kind ≡ kindRemovalEnd → e .event .count ≡ 1 → e .reply ≡ lateReply s (removalOf s)) _ _ _
+        (λ _ k n. absurd (omega arith))
+        (λ _ k n. absurd (omega arith)))
+
+-- an end that replies
+replies-nowork : (s j out : List ℕ) (budget : ℕ) (r : Outcome) → length s ≡ stateWords → NoworkKept s → r ≡ outcome s j (act (work budget) out) → r .refusal ≡ 0 → noted r .kind ≡ kindRemovalEnd → noted r .count ≡ 1 → (k i : ℕ) → i < removalOf s .position → Repeat (addressAt (removalOf s)) (sizeAt (removalOf s)) k i → resultIn (replyOf r) i ≡ DR-MEM-RES-NOWORK
+replies-nowork s j out budget r size q same z kind count k i h again =
+    on-accepted (λ x. noted x .kind ≡ kindRemovalEnd → noted x .count ≡ 1 → resultIn (replyOf x) i ≡ DR-MEM-RES-NOWORK) s j out (work budget) r same z go kind count
+  where
+    late : (e : Effect) → e ≡ working s budget .effects → e .event .kind ≡ kindRemovalEnd → e .event .count ≡ 1 → e .reply ≡ lateReply s (removalOf s)
+    late e x = rw x (late-of s budget)
+
+    is-step : effectOf s (work budget) ≡ working s budget .effects
+    is-step = unfold effectOf in refl
+
+    go : (y : refusalOf s j out (work budget) ≡ 0) → noted (accepted s j out (pagesOf s (work budget)) (effectOf s (work budget))) .kind ≡ kindRemovalEnd → noted (accepted s j out (pagesOf s (work budget)) (effectOf s (work budget))) .count ≡ 1 → resultIn (replyOf (accepted s j out (pagesOf s (work budget)) (effectOf s (work budget)))) i ≡ DR-MEM-RES-NOWORK
+    go y a c =
+        let t = taken s j out (work budget) size y in
+        let n = noted-is s j out (pagesOf s (work budget)) (effectOf s (work budget)) t in
+        let one = t .given .facts .removal (work-allowed s j out budget y) in
+        rw (reply-is s j out (pagesOf s (work budget)) (effectOf s (work budget)), late (effectOf s (work budget)) is-step (ap (λ (v : Event). v .kind) (sym n) ∙ a) (ap (λ (v : Event). v .count) (sym n) ∙ c))
+        (late-result s (removalOf s) i h (one .facts .within)
+        ∙ ap (λ (x : ℕ). x % 256 ^ 4) (q (one .one) i k h again))
 
 -- A request by its bytes is what the decoder says.
 module _ (b : List ℕ) (type n : ℕ) (q : Requests b type n) where
@@ -220,28 +270,44 @@ module _ (s j out : List ℕ) (c handle : ℕ) (m : List ℕ) (r : Outcome) (siz
     ap length (query-answer n q i h) ∙ query-length (numbered s c (requestIn m)) (addrIn (requestIn m) i) (sizeIn (requestIn m) i),
   )
 
--- Every list: each call keeps the blocks of the settled records unconfigured.
-after-call : (b : View) (u : Run) → Kept b u → settledUnconfigured (u .state) ≡ true → AfterCall (λ v. settledUnconfigured (v .state) ≡ true) u
+-- Every list: each call keeps the blocks of the settled records unconfigured, and repeats NOWORK.
+abbrev Invariant : Run → Type 0
+Invariant u = (settledUnconfigured (u .state) ≡ true) × NoworkKept (u .state)
+
+after-call : (b : View) (u : Run) → Kept b u → Invariant u → AfterCall Invariant u
 unfolding grown shifted
 after-call b u k q = record {
   onAct =
       λ a out z.
-      let t = taken (u .state) (u .journal) out a (k .size) z in
-      settled-counted (effectOf (u .state) a .state) _ _ (shape-moves (t .good .moves) (shape (u .state) (t .given)) .few)
-      (settled-turn (u .state) (effectOf (u .state) a) (t .good .turn) q);
-  onDrain = λ n h. settled-counted (u .state) _ _ (sound-facts (u .state) (k .sounds) .base .few) q;
+      let t = taken (u .state) (u .journal) out a (k .size) z in (
+        settled-counted (effectOf (u .state) a .state) _ _ (shape-moves (t .good .moves) (shape (u .state) (t .given)) .few)
+            (settled-turn (u .state) (effectOf (u .state) a) (t .good .turn) (q .0)),
+        nowork-same (effectOf (u .state) a .state) _ (counted-removal (effectOf (u .state) a .state) _ _)
+            (nowork-turn (u .state) (effectOf (u .state) a) (t .good .turn) (q .0) (q .1)),
+      );
+  onDrain =
+      λ n h. (
+        settled-counted (u .state) _ _ (sound-facts (u .state) (k .sounds) .base .few) (q .0),
+        nowork-same (u .state) _ (counted-removal (u .state) _ _) (q .1),
+      );
   onRefusal = q;
 }
 
 pub repeats : OfEveryList (λ l s j ds. Repeats s j ds)
 repeats l r j ds e z m = record {
-  unconfigured = all ds m .1;
+  unconfigured = all ds m .1 .0;
   settles =
       λ before later budget out o k q y settles again.
       let m′ = rw q at m in
       let here = all before (meets-before (newRun (r .state) j) before _ m′) in
-      settles-nowork (runs (newRun (r .state) j) before .state) (runs (newRun (r .state) j) before .journal) out budget o (here .0 .size) (here .1)
+      settles-nowork (runs (newRun (r .state) j) before .state) (runs (newRun (r .state) j) before .journal) out budget o (here .0 .size) (here .1 .0)
       (meets-outcome (meets-here (newRun (r .state) j) before _ later m′)) y settles k again;
+  replies =
+      λ before later budget out o k i q y kind count h again.
+      let m′ = rw q at m in
+      let here = all before (meets-before (newRun (r .state) j) before _ m′) in
+      replies-nowork (runs (newRun (r .state) j) before .state) (runs (newRun (r .state) j) before .journal) out budget o (here .0 .size) (here .1 .1)
+      (meets-outcome (meets-here (newRun (r .state) j) before _ later m′)) y kind count k i h again;
   begins =
       λ before later c handle msg out o n q a f none.
       let m′ = rw q at m in
@@ -262,8 +328,9 @@ repeats l r j ds e z m = record {
       (meets-outcome (meets-here (newRun (r .state) j) before _ later m′)) a n k i f h again;
 }
   where
-    all : (ds : List Done) → AllMeet (newRun (r .state) j) ds → Kept (setupView l) (runs (newRun (r .state) j) ds) × (settledUnconfigured (runs (newRun (r .state) j) ds .state) ≡ true)
+    all : (ds : List Done) → AllMeet (newRun (r .state) j) ds → Kept (setupView l) (runs (newRun (r .state) j) ds) × Invariant (runs (newRun (r .state) j) ds)
     all ds m =
         let f = at-first l r j e z in
-        on-list (setupView l) (λ v. settledUnconfigured (v .state) ≡ true) (after-call (setupView l)) (newRun (r .state) j) ds m (f .kept)
-        (rw (f .state) (settled-none (setupState l) (starts l (f .accepted) .outstanding)))
+        let o = starts l (f .accepted) .outstanding in
+        on-list (setupView l) Invariant (after-call (setupView l)) (newRun (r .state) j) ds m (f .kept)
+        (rw (f .state) (settled-none (setupState l) o, λ one. absurd (omega (arith, one, o))))

@@ -14,7 +14,7 @@ use Rattle.model.specs.declared.Found.the-variants.{At, Nowhere}
 use Rattle.model.specs.declared.Removal.{Removal}
 use Rattle.model.specs.Layout.{memoryService, mostRecords, dataHeaderBytes, memoryHeaderBytes, pairBytes, replyHeaderBytes, resultBytes, queryBytes, blockAt, outstandingOf, removalOf}
 use Rattle.model.specs.Blocks.{namedBlock}
-use Rattle.model.specs.Journal.{kindBegun, kindSettled}
+use Rattle.model.specs.Journal.{kindBegun, kindSettled, kindRemovalEnd}
 use Rattle.model.specs.Memory.{DR-MEM-CONFIGURE, DR-MEM-UNCONFIGURE, DR-MEM-QUERY, DR-MEM-RES-NOWORK, requestType, argumentOf, requestNumber, rises, addrIn, sizeIn}
 use Rattle.model.specs.Calls.{act, receive, work, Outcome}
 use Rattle.model.specs.Demand3.{Done, newRun, runs, noted, replyOf, reached, WellFormedData}
@@ -48,7 +48,7 @@ pub record SettledNowork (m : Removal) (r : Outcome) : Type 0 where
   pub inEntry : noted r .code ≡ DR-MEM-RES-NOWORK
   pub inState : getD (removalOf (r .state) .result) (m .position) 0 ≡ DR-MEM-RES-NOWORK
 
--- the result of record i in a reply to CONFIGURE ("addr, size, result"), and record i of a reply to QUERY
+-- the result of record i in a reply of result records ("addr, size, result"), and record i of a reply to QUERY
 abbrev pub resultIn : List ℕ → ℕ → ℕ
 resultIn reply i = numberAt reply (replyHeaderBytes + i * resultBytes + 16) 4
 
@@ -105,6 +105,16 @@ pub record Repeats (s j : List ℕ) (ds : List Done) : Type 0 where
       noted r .kind ≡ kindSettled →
       Repeat (addressAt (removalOf (leftBy s j before))) (sizeAt (removalOf (leftBy s j before))) k (removalOf (leftBy s j before) .position) →
       SettledNowork (removalOf (leftBy s j before)) r
+  -- and is sent so: in the late reply, if there is one, of each settled record that is a repeat
+  pub replies :
+      (before later : List Done) (budget : ℕ) (out : List ℕ) (r : Outcome) (k i : ℕ) →
+      ds ≡ before ++ record { call = act (work budget) out; gave = r } ∷ later →
+      r .refusal ≡ 0 →
+      noted r .kind ≡ kindRemovalEnd →
+      noted r .count ≡ 1 →
+      i < removalOf (leftBy s j before) .position →
+      Repeat (addressAt (removalOf (leftBy s j before))) (sizeAt (removalOf (leftBy s j before))) k i →
+      resultIn (replyOf r) i ≡ DR-MEM-RES-NOWORK
   -- "or that a configure comes to before any failure": while none is outstanding, and each pair before it names a block
   pub configures :
       (before later : List Done) (c handle : ℕ) (m out : List ℕ) (r : Outcome) (n k i : ℕ) →
