@@ -12,7 +12,7 @@ use borrow.Author.Tests.{leb-true, leb-false, le-ltb, ne-eqb, eqb-true}
 use Rattle.model.specs.Choice.{pick, _or_}
 use Rattle.model.specs.declared.Event.{Event}
 use Rattle.model.specs.Layout.{blockWords, blockIn, blockAt, blocksOf, lastOf, heldOf, outstandingOf, isSet, removalOf, withCounts}
-use Rattle.model.specs.Blocks.{Lists}
+use Rattle.model.specs.Blocks.{Lists, namedBlock, namedIn}
 use Rattle.model.specs.Journal.{Entry, entryOf, kindBegun, kindCollected, kindSettled, kindRemovalEnd}
 use Rattle.model.specs.Memory.{DR-MEM-RES-OK, marked}
 use Rattle.model.specs.Messages.{Effect}
@@ -143,6 +143,7 @@ module _ (s : List ℕ) (n : ℕ) (old : outstandingOf s ≡ 1 → removalOf s .
 pub record Adding (l : Lists) (u : Run) : Type 0 where
   pub count : blocksOf (u .state) ≡ length (l .blocks) / blockWords
   pub pages : (i : ℕ) → i < blocksOf (u .state) → blockAt (u .state) i .pages ≡ blockIn (l .blocks) 0 i .pages
+  pub named : (addr size : ℕ) → namedBlock (u .state) addr size ≡ namedIn (l .blocks) 0 (length (l .blocks) / blockWords) addr size
   pub since : outstandingOf (u .state) ≡ 1 → removalOf (u .state) .cancelled ≡ false → movedSince 0 (entries u) ≡ removalOf (u .state) .collected
   pub added : (i : ℕ) → i < length (entries u) → SettledOk (getD (entries u) i noEntry) → AddsUp l (take i (entries u)) (getD (entries u) i noEntry)
 
@@ -166,6 +167,9 @@ module _ (l : Lists) (b : View) (u : Run) (k : Kept b u) (q : Adding l u) where
   pages-then : (t : List ℕ) → SameSizes (u .state) t → (i : ℕ) → i < blocksOf t → blockAt t i .pages ≡ blockIn (l .blocks) 0 i .pages
   pages-then t c i h = c .pages i (omega (arith, c .count)) ∙ q .pages i (omega (arith, c .count))
 
+  named-then : (t : List ℕ) → SameSizes (u .state) t → (addr size : ℕ) → namedBlock t addr size ≡ namedIn (l .blocks) 0 (length (l .blocks) / blockWords) addr size
+  named-then t c addr size = c .named addr size ∙ q .named addr size
+
   after-act : (e : Effect) (out : List ℕ) → Taken (u .state) (u .journal) out e → Adding l (grown u e)
   after-act e out t =
       let x = entryOf (lastOf (u .state) + 1) (e .event) in
@@ -176,6 +180,7 @@ module _ (l : Lists) (b : View) (u : Run) (k : Kept b u) (q : Adding l u) where
       record {
         count = unfold grown in (count-then _ c);
         pages = unfold grown in (pages-then _ c);
+        named = unfold grown in (named-then _ c);
         since =
             rw (entries-grown b u e out k t, moved-more 0 (entries u) (entryOf (lastOf (u .state) + 1) (e .event)), tell)
             (unfold grown in
@@ -199,6 +204,7 @@ module _ (l : Lists) (b : View) (u : Run) (k : Kept b u) (q : Adding l u) where
       record {
         count = unfold shifted in (count-then _ c);
         pages = unfold shifted in (pages-then _ c);
+        named = unfold shifted in (named-then _ c);
         since = rw (entries-shifted b u n h k) (unfold shifted in rw (m .removal, m .outstanding) (q .since));
         added = rw (entries-shifted b u n h k) (q .added);
       }

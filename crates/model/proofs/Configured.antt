@@ -11,7 +11,7 @@ use lib.ListN.{length, getD, length-append, List·getD-append}
 use lib.Seq.{getD-at}
 use lib.Dec.{eqb}
 use borrow.Author.Tests.{eqb-true, eqb-false, ne-eqb, not-true}
-use Rattle.model.specs.Choice.{pick}
+use Rattle.model.specs.Choice.{isFound}
 use Rattle.model.specs.declared.Found.{Found}
 use Rattle.model.specs.declared.Found.the-variants.{At, Nowhere}
 use Rattle.model.specs.Layout.{blockAt, blocksOf, withConfigured, mostBlocks, stateWords}
@@ -98,20 +98,6 @@ module _ (s b : List ℕ) where
   last-result : (n : ℕ) (p : Progress) (r : ℕ) → length (p .results) ≡ n → getD (p .results ++ r ∷ []) n 0 ≡ r
   last-result n p r e = getD-at (p .results) r [] 0 n e
 
-  -- where no result is FAILURE, none failed
-  pub none-failed : (n : ℕ) → ((q : ℕ) → q < n → getD (configuredBy s b n .results) q 0 ≡ DR-MEM-RES-FAILURE → ⊥) → configuredBy s b n .failed ≡ false
-  unfolding configuredBy
-  none-failed zero f = refl
-  none-failed (suc n) f =
-      on-record (λ x. ((q : ℕ) → q < suc n → getD (x .results) q 0 ≡ DR-MEM-RES-FAILURE → ⊥) → x .failed ≡ false) (configuredBy s b n) (addrIn b n) (sizeIn b n)
-      (record {
-        afterFailure = λ y g. absurd (g n (omega arith) (unfold oneFailed in (last-result n (configuredBy s b n) DR-MEM-RES-FAILURE (results-long n))));
-        unknown = λ y e g. absurd (g n (omega arith) (unfold oneFailed in (last-result n (configuredBy s b n) DR-MEM-RES-FAILURE (results-long n))));
-        raised = λ i y e z g. unfold oneConfigured in refl;
-        known = λ i y e z g. unfold oneUnchanged in refl;
-      })
-      f
-
 -- a configured block still is, where flags rise or stay
 configured-kept : (s t : List ℕ) (x : Found) → ((k : ℕ) → x ≡ At k → (blockAt s k .configured ≡ 0 → ⊥) → blockAt t k .configured ≡ 0 → ⊥) → isConfigured s x ≡ true → isConfigured t x ≡ true
 unfolding isConfigured
@@ -170,13 +156,32 @@ module _ (s : List ℕ) (g : Given s) (b : List ℕ) where
   unfolding AllConfigured
   all-at n f = f
 
-  -- a record before any failure whose pair stands earlier
-  pub repeat-result : (n k i : ℕ) → i < n → k < i → addrIn b k ≡ addrIn b i → sizeIn b k ≡ sizeIn b i → ((q : ℕ) → q < i → getD (configuredBy s b n .results) q 0 ≡ DR-MEM-RES-FAILURE → ⊥) → getD (configuredBy s b n .results) i 0 ≡ DR-MEM-RES-NOWORK
+  -- where each pair names a block, none has failed
+  none-failed : (n : ℕ) → ((q : ℕ) → q < n → isFound (namedBlock s (addrIn b q) (sizeIn b q)) ≡ true) → configuredBy s b n .failed ≡ false
+  unfolding configuredBy
+  none-failed zero f = refl
+  none-failed (suc n) f =
+      on-record (λ x. x .failed ≡ false) (configuredBy s b n) (addrIn b n) (sizeIn b n)
+      (record {
+        afterFailure = λ y. absurd (clash _ (none-failed n (λ q l. f q (omega arith))) y);
+        unknown = λ y e. absurd (not-found (rw (sym (configured-all s g b n .sizes .named (addrIn b n) (sizeIn b n)) ∙ e) at (f n (omega arith))));
+        raised = λ i y e z. unfold oneConfigured in refl;
+        known = λ i y e z. unfold oneUnchanged in refl;
+      })
+    where
+      none-found : isFound Nowhere ≡ false
+      none-found = unfold isFound in refl
+
+      not-found : isFound Nowhere ≡ true → ⊥
+      not-found e = clash (isFound Nowhere) none-found e
+
+  -- a record whose pair stands earlier, where each pair before it names a block
+  pub repeat-result : (n k i : ℕ) → i < n → k < i → addrIn b k ≡ addrIn b i → sizeIn b k ≡ sizeIn b i → ((q : ℕ) → q < i → isFound (namedBlock s (addrIn b q) (sizeIn b q)) ≡ true) → getD (configuredBy s b n .results) i 0 ≡ DR-MEM-RES-NOWORK
   repeat-result n k i h l a z f =
       result-then s b n i h ∙ here
     where
       fine : configuredBy s b i .failed ≡ false
-      fine = none-failed s b i (λ q l e. f q l (result-then s b n q (omega arith) ∙ sym (result-then s b i q l) ∙ e))
+      fine = none-failed i f
 
       configured : isConfigured (configuredBy s b i .state) (namedBlock (configuredBy s b i .state) (addrIn b i) (sizeIn b i)) ≡ true
       configured = rw (a, z) at (all-at i (all-configured i) fine k l)

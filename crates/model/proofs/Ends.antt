@@ -1,6 +1,6 @@
 -- A removal ends, and the pages of a record settled OK add up, as specs/Ends.antt states it.
 -- Assumes nothing.
-use Prim.Native.Nat.{ℕ, zero, suc, _+_, _-_, _≤_, _<_}
+use Prim.Native.Nat.{ℕ, zero, suc, _+_, _-_, _≤_, _<_, _/_}
 use native.Mathlib.Omega.{arith}
 use native.Mathlib.Numerals.{add-one}
 use native.Mathlib.Nat.{eq-or-lt-of-le, le-of-suc-le-suc, not-suc-le-zero}
@@ -16,24 +16,24 @@ use Rattle.model.specs.declared.Event.{Event}
 use Rattle.model.specs.declared.Found.{Found}
 use Rattle.model.specs.declared.Found.the-variants.{At, Nowhere}
 use Rattle.model.specs.declared.Removal.{Removal}
-use Rattle.model.specs.Layout.{Block, blockAt, blocksOf, lastOf, heldOf, outstandingOf, removalOf, withCounts, mostBlocks, stateWords}
-use Rattle.model.specs.Blocks.{Lists, namedBlock, setupState}
+use Rattle.model.specs.Layout.{Block, blockAt, blocksOf, lastOf, heldOf, outstandingOf, removalOf, withCounts, mostBlocks, stateWords, blockIn, blockWords}
+use Rattle.model.specs.Blocks.{Lists, namedBlock, setupState, namedIn}
 use Rattle.model.specs.State.{collectedSound, removalRoom, roomAt}
 use Rattle.model.specs.Journal.{kindBegun, kindCollected, kindRemovalEnd, entriesAt}
-use Rattle.model.specs.Memory.{marked}
+use Rattle.model.specs.Memory.{marked, addrIn, sizeIn}
 use Rattle.model.specs.Messages.{Effect}
 use Rattle.model.specs.Work.{addrNow, sizeNow, settled, collecting, working}
 use Rattle.model.specs.Calls.{Action, receive, offer, withdraw, close, work, Call, act, drain, Outcome, accepted, drained, effectOf, inRange, outcome, pagesOf, refusalOf, refused}
 use Rattle.model.specs.Reading.{View, setupView}
 use Rattle.model.specs.Demand3.{Run, Done, after, newRun, runs, entries, noted}
 use Rattle.model.specs.Contracts.{AllMeet, OfEveryList}
-use Rattle.model.specs.Repeats.{addressAt, sizeAt}
-use Rattle.model.specs.Ends.{pagesAt, pagesOfFirst, pagesNamed, isWork, stepsBy, stepsIn, endsBy, endsIn, Ends}
+use Rattle.model.specs.Repeats.{addressAt, sizeAt, requestIn}
+use Rattle.model.specs.Ends.{pagesAt, pagesOfFirst, pagesNamed, isWork, stepsBy, stepsIn, notesBy, endsIn, Ends, pagesListed, pagesAsked}
 use Rattle.model.proofs.Choice.{clash, both, on-pick, or-false, and-false-right}
 use Rattle.model.proofs.Rules.{sound-facts, block-rules}
 use Rattle.model.proofs.Sounds.{named-less}
-use Rattle.model.proofs.Turns.{SameSizes, Turn, leaves, configures, begins, marks, steps, aside}
-use Rattle.model.proofs.Steps.{Step, adds, nowork, ok, ends, step-of}
+use Rattle.model.proofs.Turns.{SameSizes, Turn, leaves, configures, begins, marks, steps, aside, sizes-then}
+use Rattle.model.proofs.Steps.{Step, adds, nowork, ok, ends, step-of, turn-sizes}
 use Rattle.model.proofs.View.{shape-moves}
 use Rattle.model.proofs.Rules.{Given}
 use Rattle.model.proofs.Effects.{shape}
@@ -44,6 +44,7 @@ use Rattle.model.proofs.Kept.{noted-is}
 use Rattle.model.proofs.Settled.{counted-blocks, counted-removal, accepted-removal}
 use Rattle.model.proofs.Setup.{Starts, starts}
 use Rattle.model.proofs.AddsUp.{Adding, adding-call, paging}
+use Rattle.model.proofs.Repeats.{repeats}
 use Rattle.model.proofs.Demand3.{First, at-first, kept-meeting, meets-before, meets-here, meets-after}
 
 -- Pages of records.
@@ -189,7 +190,7 @@ record Fewer (s : List ℕ) (call : Call) (r : Outcome) : Type 0 where
   steps : stepsBy call r + left (r .state) ≤ left s
 
 module _ (s j : List ℕ) (size : length s ≡ stateWords) (few : blocksOf s ≤ mostBlocks) (o : outstandingOf s ≡ 1) where
-  act-fewer : (a : Action) (out : List ℕ) (y : refusalOf s j out a ≡ 0) → endsBy (act a out) (accepted s j out (pagesOf s a) (effectOf s a)) ≡ false → Fewer s (act a out) (accepted s j out (pagesOf s a) (effectOf s a))
+  act-fewer : (a : Action) (out : List ℕ) (y : refusalOf s j out a ≡ 0) → notesBy kindRemovalEnd (act a out) (accepted s j out (pagesOf s a) (effectOf s a)) ≡ false → Fewer s (act a out) (accepted s j out (pagesOf s a) (effectOf s a))
   act-fewer a out y n =
       let t = taken s j out a size y in
       let few′ = shape-moves (t .good .moves) (shape s (t .given)) .few in
@@ -200,21 +201,21 @@ module _ (s j : List ℕ) (size : length s ≡ stateWords) (few : blocksOf s ≤
         steps = unfold accepted stepsBy in rw same (by-action t n d (isWork a) refl);
       }
     where
-      not-end : Taken s j out (effectOf s a) → endsBy (act a out) (accepted s j out (pagesOf s a) (effectOf s a)) ≡ false → effectOf s a .event .kind ≡ kindRemovalEnd → ⊥
+      not-end : Taken s j out (effectOf s a) → notesBy kindRemovalEnd (act a out) (accepted s j out (pagesOf s a) (effectOf s a)) ≡ false → effectOf s a .event .kind ≡ kindRemovalEnd → ⊥
       not-end t n =
           eqb-false _ kindRemovalEnd
-          (sym (ap (λ (v : Event). eqb (v .kind) kindRemovalEnd) (noted-is s j out (pagesOf s a) (effectOf s a) t)) ∙ unfold endsBy accepted _and_ in n)
+          (sym (ap (λ (v : Event). eqb (v .kind) kindRemovalEnd) (noted-is s j out (pagesOf s a) (effectOf s a) t)) ∙ unfold notesBy accepted _and_ in n)
 
-      by-action : Taken s j out (effectOf s a) → endsBy (act a out) (accepted s j out (pagesOf s a) (effectOf s a)) ≡ false → Down s (effectOf s a) → (x : Bool) → isWork a ≡ x → pick (isWork a and true) 1 0 + left (effectOf s a .state) ≤ left s
+      by-action : Taken s j out (effectOf s a) → notesBy kindRemovalEnd (act a out) (accepted s j out (pagesOf s a) (effectOf s a)) ≡ false → Down s (effectOf s a) → (x : Bool) → isWork a ≡ x → pick (isWork a and true) 1 0 + left (effectOf s a .state) ≤ left s
       by-action t n d true e = unfold pick _and_ in rw e (omega (arith, work-down s (t .given) o a e (in-range s j out a y) (not-end t n)))
       by-action t n d false e = unfold pick _and_ in rw e (omega (arith, d .less))
 
-  call-fewer : (call : Call) → endsBy call (outcome s j call) ≡ false → Fewer s call (outcome s j call)
+  call-fewer : (call : Call) → notesBy kindRemovalEnd call (outcome s j call) ≡ false → Fewer s call (outcome s j call)
   call-fewer (act a out) =
-      on-act (λ r. endsBy (act a out) r ≡ false → Fewer s (act a out) r) s j out a (act-fewer a out)
+      on-act (λ r. notesBy kindRemovalEnd (act a out) r ≡ false → Fewer s (act a out) r) s j out a (act-fewer a out)
       (λ n _. record { still = unfold refused in o; steps = unfold refused stepsBy in rw (ne-eqb _ 0 n, and-false-right (isWork a) false refl) (unfold pick in (omega arith)) })
   call-fewer (drain run) =
-      on-drain (λ r. endsBy (drain run) r ≡ false → Fewer s (drain run) r) s j run
+      on-drain (λ r. notesBy kindRemovalEnd (drain run) r ≡ false → Fewer s (drain run) r) s j run
       (λ z n less e _.
       record {
         still = unfold drained in (counted-removal s (lastOf s) (heldOf s - n) .outstanding ∙ o);
@@ -222,38 +223,57 @@ module _ (s j : List ℕ) (size : length s ≡ stateWords) (few : blocksOf s ≤
       })
       (λ z _. record { still = unfold refused in o; steps = unfold refused stepsBy in (omega arith) })
 
+aside-begun : (kind : ℕ) → aside kind ≡ true → kind ≡ kindBegun → ⊥
+unfolding aside _or_
+aside-begun kind a k = clash false refl (rw k at a)
+
+begun-step : (s : List ℕ) (e : Effect) → Step s e → e .event .kind ≡ kindBegun → ⊥
+begun-step s e (adds i n w b r d ev) k = omega (arith, k, ap (λ (v : Event). v .kind) ev)
+begun-step s e (nowork i w b r z ev) k = omega (arith, k, ap (λ (v : Event). v .kind) ev)
+begun-step s e (ok i n w b other now r d ev) k = omega (arith, k, ap (λ (v : Event). v .kind) ev)
+begun-step s e (ends b o k′) k = omega (arith, k, k′)
+
+-- no call begins another while one is outstanding
+begun-none : (s : List ℕ) → outstandingOf s ≡ 1 → (e : Effect) → Turn s e → e .event .kind ≡ kindBegun → ⊥
+begun-none s o e (leaves b r a) k = aside-begun _ a k
+begun-none s o e (configures b z z′ a) k = omega (arith, z, o)
+begun-none s o e (begins m b r p c z k′) k = omega (arith, z, o)
+begun-none s o e (marks b r z k′) k = omega (arith, k, k′)
+begun-none s o e (steps t budget some h b r one same) k = begun-step t (working t budget .effects) (step-of t h (rw one) budget) (rw same at k)
+
+begins-no-other : (s j : List ℕ) → length s ≡ stateWords → outstandingOf s ≡ 1 → (call : Call) → notesBy kindBegun call (outcome s j call) ≡ false
+begins-no-other s j size o (act a out) =
+    on-act (λ r. notesBy kindBegun (act a out) r ≡ false) s j out a
+    (λ y.
+    let t = taken s j out a size y in
+    unfold notesBy accepted _and_ in
+    (ne-eqb _ kindBegun (λ k. begun-none s o (effectOf s a) (t .good .turn) (ap (λ (v : Event). v .kind) (sym (noted-is s j out (pagesOf s a) (effectOf s a) t)) ∙ k))))
+    (λ n. unfold notesBy refused _and_ in rw (ne-eqb _ 0 n))
+begins-no-other s j size o (drain run) = on-drain (λ r. notesBy kindBegun (drain run) r ≡ false) s j run (λ z n few e. unfold notesBy in refl) (λ z. unfold notesBy in refl)
+
 after-state : (u : Run) (d : Done) → after u d .state ≡ d .gave .state
 unfolding after
 after-state u d = refl
 
 -- a list of calls without an end
 list-fewer : (b : View) (u : Run) (ds : List Done) → AllMeet u ds → Kept b u → outstandingOf (u .state) ≡ 1 → endsIn ds ≡ false → stepsIn ds ≤ left (u .state)
-unfolding AllMeet endsIn stepsIn
+unfolding AllMeet endsIn stepsIn _and_
 list-fewer b u [] m k o n = omega arith
 list-fewer b u (d ∷ ds) m k o n =
     let p = or-false _ _ n in
+    let other : notesBy kindBegun (d .call) (d .gave) ≡ false = rw (meets-outcome (m .0)) (begins-no-other (u .state) (u .journal) (k .size) o (d .call)) in
     let f : Fewer (u .state) (d .call) (d .gave) = rw (meets-outcome (m .0)) (call-fewer (u .state) (u .journal) (k .size) (sound-facts (u .state) (k .sounds) .base .few) o (d .call) (rw (meets-outcome (m .0)) at (p .0))) in
     let r =
-    list-fewer b (after u d) ds (m .1) (rw (meets-doing u d (m .0)) (kept-doing b u (d .call) k)) (ap outstandingOf (after-state u d) ∙ f .still) (p .1) in
+    list-fewer b (after u d) ds (m .1) (rw (meets-doing u d (m .0)) (kept-doing b u (d .call) k)) (ap outstandingOf (after-state u d) ∙ f .still) (rw other at (p .1)) in
     omega (arith, f .steps, r, ap left (after-state u d))
 
 -- A beginning leaves a removal outstanding.
-aside-begun : (kind : ℕ) → aside kind ≡ true → kind ≡ kindBegun → ⊥
-unfolding aside _or_
-aside-begun kind a k = clash false refl (rw k at a)
-
 begun-turn : (s : List ℕ) (e : Effect) → Turn s e → e .event .kind ≡ kindBegun → outstandingOf (e .state) ≡ 1
 begun-turn s e (leaves b r a) k = absurd (aside-begun _ a k)
 begun-turn s e (configures b o o′ a) k = absurd (aside-begun _ a k)
 begun-turn s e (begins m b r p c o k′) k = r .one
 begun-turn s e (marks b r o k′) k = absurd (omega (arith, k, k′))
-begun-turn s e (steps t budget some h b r one same) k = absurd (begun-step (working t budget .effects) (step-of t h (rw one) budget) (rw same at k))
-  where
-    begun-step : (e : Effect) → Step t e → e .event .kind ≡ kindBegun → ⊥
-    begun-step e (adds i n w b r d ev) k = omega (arith, k, ap (λ (v : Event). v .kind) ev)
-    begun-step e (nowork i w b r z ev) k = omega (arith, k, ap (λ (v : Event). v .kind) ev)
-    begun-step e (ok i n w b other now r d ev) k = omega (arith, k, ap (λ (v : Event). v .kind) ev)
-    begun-step e (ends b o k′) k = omega (arith, k, k′)
+begun-turn s e (steps t budget some h b r one same) k = absurd (begun-step t (working t budget .effects) (step-of t h (rw one) budget) (rw same at k))
 
 begun-outstanding : (s j out : List ℕ) (a : Action) (r : Outcome) → length s ≡ stateWords → r ≡ outcome s j (act a out) → r .refusal ≡ 0 → noted r .kind ≡ kindBegun → outstandingOf (r .state) ≡ 1
 begun-outstanding s j out a r size same z k =
@@ -292,17 +312,56 @@ adding-first l s j f = rw (f .state) (first (starts l (f .accepted)))
     first x = record {
       count = x .counted;
       pages = λ i h. ap (λ (b : Block). b .pages) (x .given i (omega (arith, x .counted)));
+      named = x .named;
       since = λ o c. absurd (omega (arith, o, x .outstanding));
       added = unfold entries entriesAt in (λ i h. absurd (not-suc-le-zero h));
     }
 
+-- the sizes of blocks after an accepted action
+accepted-sizes : (s j out : List ℕ) (a : Action) (r : Outcome) → length s ≡ stateWords → r ≡ outcome s j (act a out) → r .refusal ≡ 0 → SameSizes s (r .state)
+accepted-sizes s j out a r size same z =
+    on-accepted (λ x. SameSizes s (x .state)) s j out a r same z
+    (λ y.
+    let t = taken s j out a size y in
+    unfold accepted in
+    (sizes-then s (effectOf s a .state) _ (turn-sizes s (effectOf s a) (t .good .turn))
+    (counted-blocks (effectOf s a .state) (lastOf s + 1) (heldOf s + 1) (shape-moves (t .good .moves) (shape s (t .given)) .few) .sizes)))
+
+-- the pages of the pairs of a request
+module _ (l : Lists) (t : List ℕ) (m : Removal) (b : List ℕ) (n : ℕ)
+    (named : (addr size : ℕ) → namedBlock t addr size ≡ namedIn (l .blocks) 0 (length (l .blocks) / blockWords) addr size)
+    (pages : (i : ℕ) → i < blocksOf t → blockAt t i .pages ≡ blockIn (l .blocks) 0 i .pages)
+    (addresses : (i : ℕ) → i < n → addressAt m i ≡ addrIn b i)
+    (sizes : (i : ℕ) → i < n → sizeAt m i ≡ sizeIn b i) where
+  listed-pages : (x : Found) (addr size : ℕ) → namedBlock t addr size ≡ x → pagesAt t x ≡ pagesListed l x
+  unfolding pagesAt pagesListed
+  listed-pages (At i) addr size e = pages i (named-less t addr size i e)
+  listed-pages Nowhere addr size e = refl
+
+  asked-pages : (k : ℕ) → k ≤ n → pagesOfFirst t m k ≡ pagesAsked l b k
+  unfolding pagesOfFirst pagesAsked
+  asked-pages zero h = refl
+  asked-pages (suc k) h =
+      rw (asked-pages k (omega arith), addresses k (omega arith), sizes k (omega arith), ← named (addrIn b k) (sizeIn b k), listed-pages (namedBlock t (addrIn b k) (sizeIn b k)) (addrIn b k) (sizeIn b k) refl)
+
 pub removals-end : OfEveryList Ends
 removals-end l r j ds e z m =
-    let f = at-first l r j e z in
+    let f′ = at-first l r j e z in
     record {
       ends =
           λ before between later a out o q y k p.
-          has-ended (setupView l) (newRun (r .state) j) before between later a out o (f .kept) (rw q at m) y k p;
+          has-ended (setupView l) (newRun (r .state) j) before between later a out o (f′ .kept) (rw q at m) y k p;
+      asked =
+          λ before later c handle msg out o n q a f none.
+          let m′ = rw q at m in
+          let w = on-list (setupView l) (Adding l) (λ u k q. adding-call l (setupView l) u k q) (newRun (r .state) j) before (meets-before (newRun (r .state) j) before _ m′) (f′ .kept) (adding-first l (r .state) j f′) in
+          let x = repeats l r j ds e z m .begins before later c handle msg out o n q a f none in
+          let y = accepted-sizes (runs (newRun (r .state) j) before .state) (runs (newRun (r .state) j) before .journal) out (receive c msg) o (w .0 .size) (meets-outcome (meets-here (newRun (r .state) j) before _ later m′)) (a .accepted) in
+          ap (pagesOfFirst (o .state) (removalOf (o .state))) (x .count)
+          ∙ asked-pages l (o .state) (removalOf (o .state)) (requestIn msg) n
+          (λ addr size. y .named addr size ∙ w .1 .named addr size)
+          (λ i h. y .pages i (omega (arith, y .count)) ∙ w .1 .pages i (omega (arith, y .count)))
+          (x .addresses) (x .sizes) n (omega arith);
       addsUp =
-          on-list (setupView l) (Adding l) (λ u k q. adding-call l (setupView l) u k q) (newRun (r .state) j) ds m (f .kept) (adding-first l (r .state) j f) .1 .added;
+          on-list (setupView l) (Adding l) (λ u k q. adding-call l (setupView l) u k q) (newRun (r .state) j) ds m (f′ .kept) (adding-first l (r .state) j f′) .1 .added;
     }

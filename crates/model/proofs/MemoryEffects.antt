@@ -56,6 +56,15 @@ collected-none room = go (eqb room 0) refl
         some : (x : ℕ) → (x ≡ 0 → ⊥) → 0 < x
         some x n = omega arith
 
+-- the arrays of a new removal
+pub new-arrays : (c handle request : ℕ) (b : List ℕ) (n : ℕ) → Arrays (newRemoval c handle request b n)
+unfolding newRemoval
+new-arrays c handle request b n = record {
+  addresses = tabulate-length (λ (i : ℕ). addrIn b i) mostRecords;
+  sizes = tabulate-length (λ (i : ℕ). sizeIn b i) mostRecords;
+  results = length-replicate {A = ℕ} mostRecords 0;
+}
+
 -- CONFIGURE after some records: the blocks of the mask are configured, and nothing else is changed.
 pub record Configures (s : List ℕ) (p : Progress) : Type 0 where
   pub moves : Moves s (p .state) (λ v. seeBlocks (configuredIn (p .mask) (v .blocks)) v)
@@ -160,11 +169,7 @@ module _ (s : List ℕ) (g : Given s) where
   unfolding beginning fieldsOf read pick newRemoval every resultsSound
   begun-good c handle request b n h u some few o =
       removal-changed (begunEvent c n request) [] (newRemoval c handle request b n)
-      (record {
-        addresses = tabulate-length (λ (i : ℕ). addrIn b i) mostRecords;
-        sizes = tabulate-length (λ (i : ℕ). sizeIn b i) mostRecords;
-        results = length-replicate {A = ℕ} mostRecords 0;
-      })
+      (new-arrays c handle request b n)
       (begun-fits _ c (next-number s g) h n request few)
       refl
       short-empty

@@ -291,6 +291,7 @@ pub search-holds : SearchHolds
 unfolding acceptedBlocks
 search-holds = record {
   eachTurn = λ b addr size low m some. one-turn b addr size low m some;
+  noneLeft = λ b addr size low. unfold searchWithin in refl;
   stays = λ l at n addr size e. in-order-found l at n addr size (keeping-in-order l at n e);
   sameThere = λ l l′ addr size e e′ long same.
       let n : ℕ = length l / blockWords in

@@ -2,7 +2,7 @@
 -- Assumes nothing.
 use Prim.Native.Nat.{ℕ, _+_, _≤_, _<_}
 use native.Mathlib.Omega.{arith}
-use mathlib.Core.Path.{_≡_, refl, _∙_}
+use mathlib.Core.Path.{_≡_, refl, _∙_, sym}
 use mathlib.Core.Bool.{Bool, true, false}
 use mathlib.Core.List.{List}
 use lib.Dec.{eqb}
@@ -13,13 +13,16 @@ use Rattle.model.specs.declared.Found.the-variants.{At, Nowhere}
 use Rattle.model.specs.declared.Removal.{Removal}
 use Rattle.model.specs.Layout.{blockAt, blocksOf, lastOf, heldOf, outstandingOf, removalOf, withCounts, mostBlocks}
 use Rattle.model.specs.Blocks.{namedBlock}
-use Rattle.model.specs.Memory.{marked}
+use Rattle.model.specs.Memory.{marked, DR-MEM-RES-OK, DR-MEM-RES-NOWORK}
 use Rattle.model.specs.Messages.{Effect}
 use Rattle.model.specs.Work.{settled, collecting, working}
 use Rattle.model.specs.Calls.{accepted}
-use Rattle.model.specs.Repeats.{isUnconfigured, settledUnconfigured, addressAt, sizeAt}
+use Rattle.model.specs.Repeats.{isUnconfigured, settledUnconfigured, addressAt, sizeAt, Repeat}
+use lib.ListN.{length, getD, set}
+use lib.Seq.{getD-set-same, getD-set-other}
+use Rattle.model.proofs.Rules.{Given}
 use Rattle.model.proofs.Choice.{every-at, every-make, or-true}
-use Rattle.model.proofs.Words.{counts-frame}
+use Rattle.model.proofs.Words.{counts-frame, loaded-arrays}
 use Rattle.model.proofs.Sounds.{named-less}
 use Rattle.model.proofs.Turns.{SameBlocks, SameRemoval, same-blocks, same-removal, Turn, leaves, configures, begins, marks, steps}
 use Rattle.model.proofs.Steps.{Step, adds, nowork, ok, ends, step-of}
@@ -137,3 +140,53 @@ settled-counted s last held few e =
 pub accepted-removal : (s j out : List ℕ) (pages : ℕ) (e : Effect) → SameRemoval (e .state) (accepted s j out pages e .state)
 unfolding accepted
 accepted-removal s j out pages e = counted-removal (e .state) (lastOf s + 1) (heldOf s + 1)
+
+-- Each settled record that is a repeat is settled NOWORK.
+abbrev pub NoworkAt : Removal → Type 0
+NoworkAt m = (i k : ℕ) → i < m .position → Repeat (addressAt m) (sizeAt m) k i → getD (m .result) i 0 ≡ DR-MEM-RES-NOWORK
+
+abbrev pub NoworkKept : List ℕ → Type 0
+NoworkKept s = outstandingOf s ≡ 1 → NoworkAt (removalOf s)
+
+pub nowork-same : (s t : List ℕ) → SameRemoval s t → NoworkKept s → NoworkKept t
+nowork-same s t r q o = rw (r .removal) (q (sym (r .outstanding) ∙ o))
+
+-- one record more, settled NOWORK if it is a repeat
+nowork-more : (m : Removal) (r : ℕ) → m .position < length (m .result) → NoworkAt m → ((k : ℕ) → Repeat (addressAt m) (sizeAt m) k (m .position) → r ≡ DR-MEM-RES-NOWORK) → NoworkAt (settled m r)
+unfolding settled
+nowork-more m r within old here i k h again = go (eqb i (m .position)) refl
+  where
+    go : (x : Bool) → eqb i (m .position) ≡ x → getD (set (m .result) (m .position) r) i 0 ≡ DR-MEM-RES-NOWORK
+    go true e =
+        let p = eqb-true i (m .position) e in
+        rw (p, getD-set-same (m .result) (m .position) r 0 within) (here k (rw p at again))
+    go false e =
+        let d = eqb-false i (m .position) e in
+        rw (getD-set-other (m .result) (m .position) i r 0 d) (old i k (less i (m .position) h d) again)
+      where
+        less : (a b : ℕ) → a < b + 1 → (a ≡ b → ⊥) → a < b
+        less a b l n = omega arith
+
+-- a repeat's block is that of the earlier record
+pub repeat-unconfigured : (s : List ℕ) → settledUnconfigured s ≡ true → outstandingOf s ≡ 1 → (k : ℕ) → Repeat (addressAt (removalOf s)) (sizeAt (removalOf s)) k (removalOf s .position) → (i : ℕ) → blockOf s (removalOf s) (removalOf s .position) ≡ At i → blockAt s i .configured ≡ 0
+unfolding isUnconfigured
+repeat-unconfigured s q one k again i named =
+    eqb-true _ 0 (rw (again .sameAddress, again .sameSize, named) at (settled-at s q one k (again .earlier)))
+
+nowork-step : (s : List ℕ) → Given s → (e : Effect) → Step s e → outstandingOf s ≡ 1 → settledUnconfigured s ≡ true → NoworkKept s → NoworkKept (e .state)
+nowork-step s g e (adds i n w b r d ev) o q f one = rw (r .removal) (unfold collecting in (f o))
+nowork-step s g e (nowork i w b r z ev) o q f one =
+    let few = g .facts .removal (rw o) .facts .few in
+    rw (r .removal) (nowork-more (removalOf s) DR-MEM-RES-NOWORK (omega (arith, loaded-arrays s .results, w .more)) (f o) (λ k again. refl))
+nowork-step s g e (ok i n w b other now r d ev) o q f one =
+    let few = g .facts .removal (rw o) .facts .few in
+    rw (r .removal) (nowork-more (removalOf s) DR-MEM-RES-OK (omega (arith, loaded-arrays s .results, w .more)) (f o) (λ k again. absurd (d (repeat-unconfigured s q o k again i (w .named)))))
+nowork-step s g e (ends b z k) o q f one = absurd (omega (arith, z, one))
+
+pub nowork-turn : (s : List ℕ) (e : Effect) → Turn s e → settledUnconfigured s ≡ true → NoworkKept s → NoworkKept (e .state)
+nowork-turn s e (leaves b r a) q f = nowork-same s (e .state) r f
+nowork-turn s e (configures b o o′ a) q f = λ one. absurd (omega (arith, o′, one))
+nowork-turn s e (begins m b r p c o k) q f = λ one. rw (r .removal) (λ i k h again. absurd (omega (arith, p)))
+nowork-turn s e (marks b r o k) q f = λ one. rw (r .removal) (unfold marked in (f o))
+nowork-turn s e (steps t budget some h b r o same) q f =
+    rw same (nowork-step t h (working t budget .effects) (step-of t h (rw o) budget) o (settled-same s t b r q) (nowork-same s t r f))

@@ -10,10 +10,10 @@ use lib.Seq.{getD-set-same, getD-set-other, length-sets}
 use borrow.Author.Tests.{leb-true, eqb-true}
 use Rattle.model.specs.Choice.{pick, every, tabulate, _and_}
 use Rattle.model.specs.Layout.{outstandingOf, blocksOf, blockIn, blockAt, lastOf, heldOf, blockCountWord, blockWords, configuredPlace, firstBlockWord, firstPlace, firstStageWord, heldWord, lastWord, mostBlocks, outstandingWord, pagesPlace, permanentPlace, serviceWords, stateWords}
-use Rattle.model.specs.Blocks.{blockKeeps, endBefore, blocksKeep, setupState, Lists, acceptedBlocks, acceptedLists, noLists}
+use Rattle.model.specs.Blocks.{blockKeeps, endBefore, blocksKeep, setupState, Lists, acceptedBlocks, acceptedLists, noLists, names, namedIn, namedBlock}
 use Rattle.model.specs.State.{sound}
 use Rattle.model.specs.Reading.{stageOf, channelsOf, servicesOf, blocksShown, removalShown, viewOf, setupView}
-use Rattle.model.proofs.Choice.{both, every-at, tabulate-same}
+use Rattle.model.proofs.Choice.{both, every-at, tabulate-same, first-same}
 use Rattle.model.proofs.Words.{sets-below, sets-above, sets-at, removal-same}
 use Rattle.model.proofs.View.{channels-same, services-same, noBlock}
 use Rattle.model.proofs.Rules.{sound-test, service-idle}
@@ -92,6 +92,13 @@ module _ (l : Lists) (f : Whole (l .blocks) (length (l .blocks) / blockWords)) w
   floor zero h = refl
   floor (suc i) h = rw (block i (omega arith))
 
+  setup-named : (addr size : ℕ) → namedBlock (setupState l) addr size ≡ namedIn (l .blocks) 0 (length (l .blocks) / blockWords) addr size
+  unfolding namedBlock
+  setup-named addr size =
+      rw count
+      (first-same (length (l .blocks) / blockWords) (λ i. names addr size (blockIn (l .blocks) 0 i)) (λ i. names addr size (blockAt (setupState l) i))
+      (λ i h. ap (names addr size) (block i h)))
+
   setup-view : viewOf (setupState l) ≡ setupView l
   unfolding viewOf setupView
   setup-view =
@@ -136,6 +143,7 @@ pub record Starts (l : Lists) : Type 0 where
   pub outstanding : outstandingOf (setupState l) ≡ 0
   pub counted : blocksOf (setupState l) ≡ length (l .blocks) / blockWords
   pub given : (i : ℕ) → i < length (l .blocks) / blockWords → blockAt (setupState l) i ≡ blockIn (l .blocks) 0 i
+  pub named : (addr size : ℕ) → namedBlock (setupState l) addr size ≡ namedIn (l .blocks) 0 (length (l .blocks) / blockWords) addr size
 
 pub starts : (l : Lists) → acceptedLists l ≡ true → Starts l
 unfolding acceptedLists
@@ -150,6 +158,7 @@ starts l e =
       outstanding = high l f outstandingWord (omega arith);
       counted = count l f;
       given = block l f;
+      named = setup-named l f;
     }
 
 pub empty-accepted : acceptedLists noLists ≡ true

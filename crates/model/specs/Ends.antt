@@ -4,7 +4,7 @@
 -- Assumes nothing.
 use Prim.Native.Nat.{ℕ, zero, suc, _+_, _/_, _≤_, _<_}
 use mathlib.Core.Path.{_≡_}
-use mathlib.Core.Bool.{Bool, true, false}
+use mathlib.Core.Bool.{Bool, true, false, not}
 use mathlib.Core.List.{List, [], _∷_, _++_}
 use lib.ListN.{length, getD, take}
 use lib.Dec.{eqb}
@@ -14,13 +14,13 @@ use Rattle.model.specs.declared.Event.{Event}
 use Rattle.model.specs.declared.Found.{Found}
 use Rattle.model.specs.declared.Found.the-variants.{At, Nowhere}
 use Rattle.model.specs.declared.Removal.{Removal}
-use Rattle.model.specs.Layout.{blockWords, blockIn, blockAt, removalOf}
-use Rattle.model.specs.Blocks.{Lists, namedBlock}
+use Rattle.model.specs.Layout.{blockWords, blockIn, blockAt, outstandingOf, removalOf}
+use Rattle.model.specs.Blocks.{Lists, namedIn, namedBlock}
 use Rattle.model.specs.Journal.{Entry, eventOf, kindBegun, kindCollected, kindSettled, kindRemovalEnd}
-use Rattle.model.specs.Memory.{DR-MEM-RES-OK}
+use Rattle.model.specs.Memory.{DR-MEM-UNCONFIGURE, DR-MEM-RES-OK, addrIn, sizeIn}
 use Rattle.model.specs.Calls.{Action, receive, offer, withdraw, close, work, Call, act, drain, Outcome}
 use Rattle.model.specs.Demand3.{Done, newRun, runs, entries, noEntry, noted}
-use Rattle.model.specs.Repeats.{addressAt, sizeAt}
+use Rattle.model.specs.Repeats.{addressAt, sizeAt, requestIn, leftBy, Requests, Hears}
 
 -- the pages of the block that a pair names; an unknown pair has none
 unfoldable pub pagesAt : List ℕ → Found → ℕ
@@ -35,6 +35,16 @@ pagesOfFirst s m (suc n) = pagesOfFirst s m n + pagesAt s (namedBlock s (address
 -- P, of the removal that a state has
 abbrev pub pagesNamed : List ℕ → ℕ
 pagesNamed s = pagesOfFirst s (removalOf s) (removalOf s .count)
+
+-- P by the request b of n pairs and the block list alone
+unfoldable pub pagesListed : Lists → Found → ℕ
+pagesListed l (At i) = blockIn (l .blocks) 0 i .pages
+pagesListed l Nowhere = 0
+
+unfoldable pub pagesAsked : Lists → List ℕ → ℕ → ℕ
+pagesAsked l b zero = 0
+pagesAsked l b (suc n) =
+    pagesAsked l b n + pagesListed l (namedIn (l .blocks) 0 (length (l .blocks) / blockWords) (addrIn b n) (sizeIn b n))
 
 -- the accepted work steps of a list
 unfoldable pub isWork : Action → Bool
@@ -52,14 +62,16 @@ unfoldable pub stepsIn : List Done → ℕ
 stepsIn [] = 0
 stepsIn (d ∷ ds) = stepsBy (d .call) (d .gave) + stepsIn ds
 
--- an accepted call whose entry is a removal's end (kind 16), and a list that has one
-unfoldable pub endsBy : Call → Outcome → Bool
-endsBy (act a out) r = eqb (r .refusal) 0 and eqb (noted r .kind) kindRemovalEnd
-endsBy (drain run) r = false
+-- an accepted call whose entry is of a kind
+unfoldable pub notesBy : ℕ → Call → Outcome → Bool
+notesBy kind (act a out) r = eqb (r .refusal) 0 and eqb (noted r .kind) kind
+notesBy kind (drain run) r = false
 
+-- a list that has a removal's end (kind 16), before any other beginning (12): the end of the one that was outstanding
 unfoldable pub endsIn : List Done → Bool
 endsIn [] = false
-endsIn (d ∷ ds) = endsBy (d .call) (d .gave) or endsIn ds
+endsIn (d ∷ ds) =
+    notesBy kindRemovalEnd (d .call) (d .gave) or (not (notesBy kindBegun (d .call) (d .gave)) and endsIn ds)
 
 -- what an entry tells
 abbrev pub told : Entry → Event
@@ -97,6 +109,14 @@ pub record Ends (l : Lists) (s j : List ℕ) (ds : List Done) : Type 0 where
       noted r .kind ≡ kindBegun →
       pagesNamed (r .state) + 1 ≤ stepsIn between →
       endsIn between ≡ true
+  -- and P, which is told there by the removal that was begun, is what the request and the block list say
+  pub asked :
+      (before later : List Done) (c handle : ℕ) (m out : List ℕ) (r : Outcome) (n : ℕ) →
+      ds ≡ before ++ record { call = act (receive c m) out; gave = r } ∷ later →
+      Hears (leftBy s j before) c m handle r →
+      Requests (requestIn m) DR-MEM-UNCONFIGURE n →
+      outstandingOf (leftBy s j before) ≡ 0 →
+      pagesNamed (r .state) ≡ pagesAsked l (requestIn m) n
   -- "the pages moved in the entries of each record settled OK add up to that block's pages exactly": of the entries drained, then those held
   pub addsUp :
       (i : ℕ) →

@@ -100,6 +100,8 @@ pub record SearchHolds : Type 0 where
       ≡ turnAt (b (low + (m - 1) / 2)) (low + (m - 1) / 2) addr size
       (searchLeft b addr size (low + (m - 1) / 2 + 1) (m / 2))
       (searchLeft b addr size low ((m - 1) / 2))
+  -- and where none is left, it ends without one
+  pub noneLeft : (b : ℕ → Block) (addr size low : ℕ) → searchLeft b addr size low 0 ≡ foundAs Nowhere
   -- "Every answer stays.": the search finds what 01 calls the block that the pair names
   pub stays :
       (l : List ℕ) (at n addr size : ℕ) →
