@@ -9,6 +9,7 @@ pub mod Ring
 pub mod Mask
 pub mod Events
 pub mod Replies
+pub mod Shown
 pub mod Effects
 pub mod MemoryEffects
 pub mod Configured
@@ -22,6 +23,7 @@ pub mod Setup
 pub mod Delivers
 pub mod Demand3
 pub mod Repeats
+pub mod Replay
 pub mod ListsHold
 pub mod Handlers
 pub mod Kept
