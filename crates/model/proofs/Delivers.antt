@@ -1,6 +1,6 @@
 -- Data reaches a service exactly when the view shows its handle registered on the channel, and reaches that service.
 -- Assumes nothing.
-use Prim.Native.Nat.{ℕ, zero, suc, _/_, _≤_, _<_}
+use Prim.Native.Nat.{ℕ, _/_, _≤_, _<_}
 use native.Mathlib.Omega.{arith}
 use mathlib.Core.Path.{_≡_, refl, sym, ap, _∙_}
 use mathlib.Core.Bool.{Bool, true, false}
@@ -15,20 +15,19 @@ use Rattle.model.specs.declared.Event.{Event}
 use Rattle.model.specs.declared.Found.{Found}
 use Rattle.model.specs.declared.Found.the-variants.{At, Nowhere}
 use Rattle.model.specs.declared.Message.the-variants.{Data}
-use Rattle.model.specs.State.{serviceSound}
 use Rattle.model.specs.Journal.{servedBy, answeredEvent, codeNone, dataRefusedEvent, deliveredEvent}
 use Rattle.model.specs.Messages.{Effect, DS-INV-HDL, closing, decoded, decodedByType, dsData, dsMessage, effect, mostPayload, nack, payloadFits, payloadLength, registeredAs, registeredFor, route, wellFormed, wholeMessage}
 use Rattle.model.specs.Memory.{memoryReply, Progress, answeredMemory, answering, answeringConfigure, answeringError, beginning, blocked, cancelling, configureReply, configuredBy, querying, reporting}
 use Rattle.model.specs.Calls.{act, accepted, allowed, dataFor, effectOf, heard, hears, inRange, outcome, pagesOf, receive, receiving, refusalOf, refused, routed}
-use Rattle.model.specs.Reading.{idle, none, servicesOf, stageOf, viewOf}
-use Rattle.model.specs.Demand3.{sameBytes, Delivers, WellFormedData, reached, replyOf, showsHandle, showsRegistered, showsService}
+use Rattle.model.specs.Reading.{none, viewOf}
+use Rattle.model.specs.Demand3.{sameBytes, Delivers, WellFormedData, reached, replyOf, showsRegistered, showsService}
 use Rattle.model.proofs.Choice.{clash, on-pick, on-first, first-nowhere, both}
 use Rattle.model.proofs.Shown.{shows-service, shows-first}
 use Rattle.model.proofs.Rules.{Sound, live-rules}
 use Rattle.model.proofs.MemoryEffects.{on-memory}
 use Rattle.model.proofs.Calls.{Taken, taken, passed, on-act}
 use Rattle.model.proofs.Kept.{noted-is}
-use Rattle.model.specs.Layout.{channelCount, dataHeaderBytes, handleAt, lastOf, memoryService, minorAt, placeCount, placeOf, readyAt, serviceCount, stageAt, stageRegistered, stateWords}
+use Rattle.model.specs.Layout.{channelCount, dataHeaderBytes, handleAt, memoryService, placeCount, placeOf, readyAt, serviceCount, stageAt, stageRegistered, stateWords}
 
 -- well-formed data is decoded as data under its handle
 pub data-decoded : (m : List ℕ) (handle : ℕ) → WellFormedData m handle → decoded m ≡ Data handle

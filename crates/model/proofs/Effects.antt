@@ -8,7 +8,7 @@ use mathlib.Core.Bool.{Bool, true, false}
 use mathlib.Core.List.{List, []}
 use lib.ListN.{length}
 use lib.Dec.{eqb, ltb}
-use borrow.Author.Tests.{ltb-true, ltb-false, eqb-true, eqb-false, eq-eqb, le-leb, not-true}
+use borrow.Author.Tests.{ltb-true, ltb-false, eqb-true, eqb-false, le-leb, not-true}
 use Rattle.model.specs.Choice.{pick, _or_}
 use Rattle.model.specs.declared.Event.{Event}
 use Rattle.model.specs.Layout.{placeOf, blockCountWord, lastWord, outstandingWord, channelCount, handleAt, highestMinor, highestNumber, lastOf, outputBytes, placeCount, readyAt, serviceCount, stageAt, stageIdle, stageOffered, stageRegistered, stateWords, withChannel, withService}
@@ -22,7 +22,8 @@ use Rattle.model.proofs.View.{Shape, Moves, stays, turns, service-moves
 use Rattle.model.proofs.Words.{Agree, service-frame, channel-frame}
 use Rattle.model.proofs.Rules.{Base, Removes, Sound, Live, live-rules, live-last, service-idle, base-later, removes-later}
 use Rattle.model.proofs.Sounds.{base-service, base-channel, removes-same}
-use Rattle.model.proofs.Shown.{shows-ready, on-ready, idle-here, offered-here, offered-as-here, live-here}
+use Rattle.model.proofs.Needs.{ready-needs, closed-needs, version-needs, offered-needs, registered-needs, refused-needs, ended-needs, noted-needs}
+use Rattle.model.proofs.Shown.{shows-open, shows-test, idle-here, offered-here, offered-as-here, live-here}
 use Rattle.model.proofs.Turns.{Turn, leaves, aside, same-blocks, same-removal}
 use Rattle.model.proofs.Events.{Fits, ready-fits, closed-fits, version-fits, offered-fits, registered-fits, refused-fits, ended-fits, noted-fits}
 use Rattle.model.proofs.Replies.{short-empty, initAck-short, initNack-short, regReq-short, unreg-short, unregAck-short, unregNack-short}
@@ -122,28 +123,28 @@ module _ (s : List ℕ) (g : Given s) where
 
   -- DS messages and host calls.
   pub closing-good : (c by : ℕ) → c < channelCount → Good s (closing s c by)
-  unfolding closing read pick fieldsOf aside _or_ needed
+  unfolding closing read pick fieldsOf aside _or_
   closing-good c by h =
-      channel-changed (closedEvent c by) [] c 0 h (omega arith) (closed-fits _ c next-number h by) (λ v. refl) short-empty refl refl
+      channel-changed (closedEvent c by) [] c 0 h (omega arith) (closed-fits _ c next-number h by) (λ v. refl) short-empty refl (closed-needs _ _ c by)
 
   pub initiated-good : (c major : ℕ) → c < channelCount → major ≤ highestMinor → Good s (initiated s c major)
   unfolding initiated
   initiated-good c major h m =
       on-pick (Good s) _ _ _
       (λ e.
-      unfold read pick fieldsOf aside _or_ needed in
-      (channel-changed (readyEvent c) (initAck 0) c 1 h (omega arith) (ready-fits _ c next-number h) (λ v. refl) (initAck-short 0) refl refl))
+      unfold read pick fieldsOf aside _or_ in
+      (channel-changed (readyEvent c) (initAck 0) c 1 h (omega arith) (ready-fits _ c next-number h) (λ v. refl) (initAck-short 0) refl (ready-needs _ _ c)))
       (λ e.
       channel-changed (versionRefusedEvent c major) _ c 0 h (omega arith) (version-fits _ c next-number h major m)
       (λ v. unfold read pick fieldsOf in refl)
       (initNack-short _)
       (unfold aside _or_ in refl)
-      (unfold pick fieldsOf needed in refl))
+      (version-needs _ _ c major))
 
   pub noting-good : (c type : ℕ) (reply : List ℕ) → c < channelCount → readyAt s c ≡ 1 → length reply ≤ outputBytes → Good s (noting s c type reply)
-  unfolding noting read pick fieldsOf aside _or_ needed
+  unfolding noting read pick fieldsOf aside _or_
   noting-good c type reply h ready f =
-      unchanged (notedEvent c type) reply (noted-fits _ c next-number h type) (λ v. refl) f refl (shows-ready s c h ∙ eq-eqb _ 1 ready)
+      unchanged (notedEvent c type) reply (noted-fits _ c next-number h type) (λ v. refl) f refl (noted-needs _ _ c type (shows-open s c h ready))
 
   -- 5: the handle is that of the offer
   registered-good : (c v minor handle : ℕ) → c < channelCount → readyAt s c ≡ 1 → v < serviceCount → minor ≤ highestMinor → stageAt s (placeOf c v) ≡ stageOffered → handleAt s (placeOf c v) ≡ handle → Good s (effect (registeredEvent c v minor handle) (withRegistered s c v handle minor) [])
@@ -161,7 +162,7 @@ module _ (s : List ℕ) (g : Given s) where
       ∙ (unfold _or_ in (le-leb minor highestMinor m)))
       (λ j b n p z e. own j b n p (e ∙ sym q))
       (unfold aside _or_ in refl)
-      (unfold needed in (on-ready s c h v l ready (isOfferedAs handle) (offered-as-here s (placeOf c v) handle st q)))
+      (registered-needs _ _ c v minor handle (shows-open s c h ready) (shows-test s c h v l (isOfferedAs handle) (offered-as-here s (placeOf c v) handle st q)))
     where
       own : (j : ℕ) → j < placeCount → (j ≡ placeOf c v → ⊥) → (stageAt s j ≡ stageIdle → ⊥) → handleAt s j ≡ handleAt s (placeOf c v) → ⊥
       own j b n live p = go (ltb j (placeOf c v)) refl
@@ -183,17 +184,18 @@ module _ (s : List ℕ) (g : Given s) where
   not-acknowledged-good c handle h ready =
       on-first (λ x. Good s (notAcknowledged s c x)) serviceCount (offeredAs s c handle)
       (λ v r.
-      unfold notAcknowledged read pick fieldsOf stageOf aside _or_ needed in
+      unfold notAcknowledged read pick fieldsOf stageOf aside _or_ in
       (idled (offerRefusedEvent c v) [] c v h (r .below) (refused-fits _ c next-number h v (r .below)) (λ x. refl) short-empty refl
-      (on-ready s c h v (r .below) ready isOffered (offered-here s (placeOf c v) (eqb-true _ stageOffered (both _ _ (r .passes) .0))))))
+      (refused-needs _ _ c v (shows-open s c h ready)
+      (shows-test s c h v (r .below) isOffered (offered-here s (placeOf c v) (eqb-true _ stageOffered (both _ _ (r .passes) .0)))))))
       (λ _. unfold notAcknowledged in (noting-good c _ [] h ready short-empty))
 
   -- 7, of UNREG and of withdraw
   ended-good : (c v : ℕ) (reply : List ℕ) → c < channelCount → readyAt s c ≡ 1 → v < serviceCount → (stageAt s (placeOf c v) ≡ stageIdle → ⊥) → length reply ≤ outputBytes → Good s (effect (serviceEndedEvent c v) (withIdle s c v) reply)
-  unfolding read pick fieldsOf stageOf aside _or_ needed
+  unfolding read pick fieldsOf stageOf aside _or_
   ended-good c v reply h ready l live f =
       idled (serviceEndedEvent c v) reply c v h l (ended-fits _ c next-number h v l) (λ x. refl) f refl
-      (on-ready s c h v l ready isLive (live-here s (placeOf c v) live))
+      (ended-needs _ _ c v (shows-open s c h ready) (shows-test s c h v l isLive (live-here s (placeOf c v) live)))
 
   pub unregistered-good : (c handle : ℕ) → c < channelCount → readyAt s c ≡ 1 → Good s (unregistered s c handle (liveFor s c handle))
   unregistered-good c handle h ready =
@@ -218,7 +220,7 @@ module _ (s : List ℕ) (g : Given s) where
       let u = live-rules _ _ _ _ _ live (g .facts .base .services j b) in
       omega (arith, u .ours .most))
       (unfold aside _or_ in refl)
-      (unfold needed in (on-ready s c h v l ready isIdle (idle-here s (placeOf c v) st)))
+      (offered-needs _ _ c v (shows-open s c h ready) (shows-test s c h v l isIdle (idle-here s (placeOf c v) st)))
 
   pub withdrawing-good : (c v : ℕ) → c < channelCount → v < serviceCount → (stageAt s (placeOf c v) ≡ stageIdle → ⊥) → Good s (withdrawing s c v)
   unfolding withdrawing

@@ -9,6 +9,7 @@ pub mod Ring
 pub mod Mask
 pub mod Events
 pub mod Replies
+pub mod Needs
 pub mod Shown
 pub mod Effects
 pub mod MemoryEffects

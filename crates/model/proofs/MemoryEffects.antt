@@ -21,7 +21,7 @@ use Rattle.model.specs.Journal.{fieldsOf, answeredEvent, configuredEvent
 use Rattle.model.specs.Messages.{Effect, effect}
 use Rattle.model.specs.Memory.{argumentOf, addrIn, sizeIn, hasRecords, requestOf, requestNumber, memoryReply, answering, answeringError, blocked, Progress, oneFailed, oneConfigured, oneUnchanged, configureOne, configuredBy, configureReply, answeringConfigure, beginning, querying, reporting, marked, cancelling, requested, answeredMemory, DR-MEM-OK, configureAt, newRemoval}
 use Rattle.model.specs.Reading.{View, removing, read, seeBlocks, configuredIn, markedRemoval, blocksShown, removalShown, viewOf, seeRemoval}
-use Rattle.model.proofs.Choice.{on-pick, both, join, tabulate-at, tabulate-length}
+use Rattle.model.proofs.Choice.{on-pick, both, tabulate-at, tabulate-length}
 use Rattle.model.proofs.Words.{Arrays, loaded-arrays, configured-frame}
 use Rattle.model.proofs.View.{Moves, shape-moves, stays, then, turns, configured-moves, removal-moves}
 use Rattle.model.proofs.Rules.{Base, Ours, RemovalFacts}
@@ -30,7 +30,8 @@ use Rattle.model.proofs.Sounds.{named-less, base-configured, base-remov
 use Rattle.model.proofs.Turns.{SameSizes, SameBlocks, NewRemoval, Turn, configures, begins, marks, aside, same-sizes, sizes-then, flag-sizes, removal-blocks, new-removal}
 use Rattle.model.proofs.Mask.{configured-none, configured-more, bit-none, bit-within, none-within}
 use Rattle.model.proofs.Replies.{short-empty, memory-length, results-short, queries-short, result-length, query-length, status-length}
-use Rattle.model.specs.Replay.{needed, isRemoving}
+use Rattle.model.specs.Replay.{isRemoving}
+use Rattle.model.proofs.Needs.{answered-needs, configured-needs, begun-needs, cancelled-needs}
 use Rattle.model.proofs.Shown.{Reaches}
 use Rattle.model.proofs.Effects.{Given, Good, readBy, neededBy, shape, next-number, base-now, removes-now, unchanged}
 use Rattle.model.specs.Blocks.{namedBlock}
@@ -141,16 +142,16 @@ module _ (s : List ℕ) (g : Given s) where
 
   -- 10 and 11, of a CONFIGURE
   configure-good : (c handle request : ℕ) (b : List ℕ) (n : ℕ) (p : Progress) → Reaches s c → n ≤ mostRecords → outstandingOf s ≡ 0 → Configures s p → Good s (answeringConfigure p c handle request b n)
-  unfolding answeringConfigure answering fieldsOf read pick seeBlocks aside _or_ needed
+  unfolding answeringConfigure answering fieldsOf read pick seeBlocks aside _or_
   configure-good c handle request b n p h few o r =
       on-pick (Good s) _ _ _
       (λ e.
       let z = eqb-true (p .mask) 0 e in
       blocks-changed (answeredEvent c codeNone request) _ p (answered-fits _ c (next-number s g) (h .below) codeNone request (omega arith))
       (rw (z, configured-none (viewOf s .blocks)))
-      short o r refl (h .shown))
+      short o r refl (answered-needs _ _ c codeNone request (h .ready) (h .shown)))
       (λ e. blocks-changed (configuredEvent c (p .mask)) _ p (configured-fits _ c (next-number s g) (h .below) (p .mask)) refl short o r refl
-      (join _ _ (h .shown) (lt-ltb (p .mask) (2 ^ length (viewOf s .blocks)) (rw (blocks-count s) (r .within)))))
+      (configured-needs _ _ c (p .mask) (h .ready) (h .shown) (rw (blocks-count s) (r .within))))
     where
       short : length (configureReply p handle request b n) ≤ outputBytes
       short = unfold configureReply in results-short handle _ request n few _ (λ i. result-length (p .state) (addrIn b i) (sizeIn b i) _)
@@ -169,7 +170,7 @@ module _ (s : List ℕ) (g : Given s) where
 
   -- 12
   begun-good : (c handle request : ℕ) (b : List ℕ) (n : ℕ) → Reaches s c → Ours 0 (lastOf s + 1) handle → 1 ≤ n → n ≤ mostRecords → outstandingOf s ≡ 0 → Good s (beginning s c handle request b n)
-  unfolding beginning fieldsOf read pick newRemoval every resultsSound needed
+  unfolding beginning fieldsOf read pick newRemoval every resultsSound
   begun-good c handle request b n h u some few o =
       removal-changed (begunEvent c n request) [] (newRemoval c handle request b n)
       (record {
@@ -190,7 +191,7 @@ module _ (s : List ℕ) (g : Given s) where
         results = refl;
       })
       (λ blocks removal. begins (newRemoval c handle request b n) blocks removal refl o refl)
-      (h .shown)
+      (begun-needs _ _ c n request (h .ready) (h .shown))
 
   -- what is shown of an outstanding removal
   pub removing-now : isSet (outstandingOf s) ≡ true → viewOf s .removal ≡ removing (removalOf s .cancelled) (removalOf s .position) (removalOf s .collected)
@@ -203,7 +204,7 @@ module _ (s : List ℕ) (g : Given s) where
 
   -- 13
   cancelled-good : (c request : ℕ) (reply : List ℕ) → Reaches s c → length reply ≤ outputBytes → isSet (outstandingOf s) ≡ true → Good s (effect (cancelledEvent c request) (withRemoval s (marked (removalOf s))) reply)
-  unfolding fieldsOf read pick marked markedRemoval resultsSound needed
+  unfolding fieldsOf read pick marked markedRemoval resultsSound
   cancelled-good c request reply h f o =
       let a = loaded-arrays s in
       let m = removes-now s g o .facts in
@@ -222,13 +223,13 @@ module _ (s : List ℕ) (g : Given s) where
         results = m .results;
       })
       (λ blocks removal. marks blocks removal (removes-now s g o .one) refl)
-      (join _ _ (h .shown) (removing-shown o))
+      (cancelled-needs _ _ c request (h .ready) (h .shown) (removing-shown o))
 
   -- The requests.
   answering-good : (c code request : ℕ) (reply : List ℕ) → Reaches s c → code < codeEnd → length reply ≤ outputBytes → Good s (answering s c code request reply)
-  unfolding answering fieldsOf read pick aside _or_ needed
+  unfolding answering fieldsOf read pick aside _or_
   answering-good c code request reply h k f =
-      unchanged s g (answeredEvent c code request) reply (answered-fits _ c (next-number s g) (h .below) code request k) (λ v. refl) f refl (h .shown)
+      unchanged s g (answeredEvent c code request) reply (answered-fits _ c (next-number s g) (h .below) code request k) (λ v. refl) f refl (answered-needs _ _ c code request (h .ready) (h .shown))
 
   blocked-good : (c handle request : ℕ) (b : List ℕ) (n : ℕ) → Reaches s c → n ≤ mostRecords → Good s (blocked s c handle request b n)
   unfolding blocked

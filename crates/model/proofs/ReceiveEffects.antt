@@ -2,22 +2,22 @@
 -- Assumes nothing.
 use Prim.Native.Nat.{ℕ, _+_, _≤_, _<_}
 use native.Mathlib.Omega.{arith}
-use mathlib.Core.Path.{_≡_, refl, sym, _∙_}
+use mathlib.Core.Path.{_≡_, refl, sym}
 use mathlib.Core.List.{List, []}
 use mathlib.Core.Bool.{Bool, true, false}
 use lib.Dec.{eqb}
-use borrow.Author.Tests.{eqb-true, eq-eqb}
+use borrow.Author.Tests.{eqb-true}
 use Rattle.wire.proofs.Laws.{number-bound}
 use Rattle.model.specs.declared.Message.{Message}
 use Rattle.model.specs.declared.Message.the-variants.{InitReq, RegReq, RegAck, RegNack, Unreg, UnregAck, UnregNack, Data, Nack, Bad}
 use Rattle.model.specs.Layout.{memoryService, placeOf, readyAt, channelCount, highestMinor, lastOf, placeCount, serviceCount, stageRegistered, stageAt}
 use Rattle.model.specs.Messages.{decoded, decodedByType, registeredAs, registeredFor, route, DS-INV-HDL, effect, nack}
 use Rattle.model.specs.Calls.{dataFor, heard, hears, receiving, routed}
-use Rattle.model.specs.Choice.{pick, _and_, _or_}
+use Rattle.model.specs.Choice.{pick, _or_}
 use Rattle.model.specs.declared.Found.the-variants.{Nowhere}
 use Rattle.model.specs.declared.Route.{Route}
 use Rattle.model.specs.declared.Route.the-variants.{Memory, Host}
-use Rattle.model.proofs.Choice.{on-pick, on-first, first-nowhere, both, join}
+use Rattle.model.proofs.Choice.{on-pick, on-first, first-nowhere, both}
 use Rattle.model.proofs.Rules.{Ours, live-rules}
 use Rattle.model.proofs.Events.{delivered-fits, data-refused-fits}
 use Rattle.model.proofs.Replies.{short-empty, regNack-short, nack-short}
@@ -26,8 +26,9 @@ use Rattle.model.proofs.Turns.{aside}
 use Rattle.model.proofs.MemoryEffects.{memory-good}
 use Rattle.model.specs.Journal.{deliveredEvent, fieldsOf, dataRefusedEvent}
 use Rattle.model.specs.Reading.{read, viewOf}
-use Rattle.model.specs.Replay.{needed, showsReady, showsStage, isRegistered}
-use Rattle.model.proofs.Shown.{shows-ready, shows-none, on-ready, registered-here}
+use Rattle.model.specs.Replay.{showsReady, showsStage, isRegistered}
+use Rattle.model.proofs.Shown.{shows-none, shows-open, shows-test, registered-here}
+use Rattle.model.proofs.Needs.{delivered-needs, data-refused-needs}
 
 -- versions are numbers of 16 bits
 abbrev Versions : Message → Type 0
@@ -57,10 +58,6 @@ versions m =
     (λ _. on-pick Versions _ _ _ (λ _. tt) (λ _. tt))))))))))
     (λ _. tt)
 
--- a ready channel with a registered service is shown
-abbrev Shows : List ℕ → ℕ → ℕ → Type 0
-Shows s c v = (showsReady (viewOf s) c and isRegistered (showsStage (viewOf s) c v)) ≡ true
-
 -- the memory service is answered inside, and no other
 memory-route : (v : ℕ) → route v ≡ Memory → v ≡ memoryService
 unfolding route pick
@@ -71,22 +68,22 @@ memory-route v q = go (eqb v memoryService) refl q
     go false e z = absurd (let y : _≡_ {A = ℕ} 0 1 = cc in omega arith)
 
 module _ (s : List ℕ) (g : Given s) where
-  delivered-good : (c v : ℕ) → c < channelCount → v < serviceCount → Shows s c v → Good s (effect (deliveredEvent c v) s [])
-  unfolding read pick fieldsOf aside _or_ needed
-  delivered-good c v h l n =
-      unchanged s g (deliveredEvent c v) [] (delivered-fits _ c (next-number s g) h v l) (λ x. refl) short-empty refl n
+  delivered-good : (c v : ℕ) → c < channelCount → v < serviceCount → showsReady (viewOf s) c ≡ true → isRegistered (showsStage (viewOf s) c v) ≡ true → Good s (effect (deliveredEvent c v) s [])
+  unfolding read pick fieldsOf aside _or_
+  delivered-good c v h l r n =
+      unchanged s g (deliveredEvent c v) [] (delivered-fits _ c (next-number s g) h v l) (λ x. refl) short-empty refl (delivered-needs _ _ c v r n)
 
   data-refused-good : (c handle : ℕ) → c < channelCount → readyAt s c ≡ 1 → registeredFor s c handle ≡ Nowhere → Good s (effect (dataRefusedEvent c handle) s (nack handle DS-INV-HDL))
-  unfolding read pick fieldsOf aside _or_ needed
+  unfolding read pick fieldsOf aside _or_
   data-refused-good c handle h ready e =
       unchanged s g (dataRefusedEvent c handle) _ (data-refused-fits _ c (next-number s g) h handle) (λ v. refl) (nack-short handle _) refl
-      (join _ _ (shows-ready s c h ∙ eq-eqb _ 1 ready) (shows-none s (g .facts .base) c handle h e))
+      (data-refused-needs _ _ c handle (shows-open s c h ready) (shows-none s (g .facts .base) c handle h e))
 
-  routed-good : (c handle : ℕ) (payload : List ℕ) (v : ℕ) (x : Route) → route v ≡ x → c < channelCount → v < serviceCount → Shows s c v → Ours 0 (lastOf s + 1) handle → Good s (routed s c handle payload v x)
+  routed-good : (c handle : ℕ) (payload : List ℕ) (v : ℕ) (x : Route) → route v ≡ x → c < channelCount → v < serviceCount → showsReady (viewOf s) c ≡ true → isRegistered (showsStage (viewOf s) c v) ≡ true → Ours 0 (lastOf s + 1) handle → Good s (routed s c handle payload v x)
   unfolding routed
-  routed-good c handle payload v Memory q h l n o =
-      memory-good s g c handle payload (record { below = h; shown = rw (sym (memory-route v q)) n }) o
-  routed-good c handle payload v Host q h l n o = delivered-good c v h l n
+  routed-good c handle payload v Memory q h l r n o =
+      memory-good s g c handle payload (record { below = h; ready = r; shown = rw (sym (memory-route v q)) n }) o
+  routed-good c handle payload v Host q h l r n o = delivered-good c v h l r n
 
   data-good : (c handle : ℕ) (payload : List ℕ) → c < channelCount → readyAt s c ≡ 1 → Good s (dataFor s c handle payload (registeredFor s c handle))
   unfolding dataFor
@@ -98,7 +95,8 @@ module _ (s : List ℕ) (g : Given s) where
       let two : stageAt s (placeOf c v) ≡ stageRegistered = eqb-true _ stageRegistered (p .0) in
       let u = live-rules _ _ _ _ _ (λ q. omega (arith, two)) (base-now s g .services (placeOf c v) k) .ours in
       routed-good c handle payload v (route v) refl h (r .below)
-      (on-ready s c h v (r .below) ready isRegistered (registered-here s (placeOf c v) two))
+      (shows-open s c h ready)
+      (shows-test s c h v (r .below) isRegistered (registered-here s (placeOf c v) two))
       (record { least = omega arith; most = omega (arith, u .most, eqb-true _ handle (p .1)) }))
       (λ none. data-refused-good c handle h ready (first-nowhere serviceCount (registeredAs s c handle) none))
 

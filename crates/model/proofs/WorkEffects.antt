@@ -30,7 +30,8 @@ use Rattle.model.proofs.Replies.{short-empty, results-short, result-len
 use Rattle.model.proofs.Events.{codeEnd, collected-fits, settled-fits, end-fits}
 use Rattle.model.proofs.Effects.{Given, Good, shape, next-number, base-now, removes-now}
 use Rattle.model.proofs.MemoryEffects.{shown-length, shown-at, collected-none, removing-now, removing-shown, removal-changed}
-use Rattle.model.specs.Replay.{needed, settles}
+use Rattle.model.specs.Replay.{settles}
+use Rattle.model.proofs.Needs.{collected-needs, settled-needs, end-needs}
 use Rattle.model.specs.Memory.{DR-MEM-RES-NOWORK, DR-MEM-RES-OK}
 
 -- the results of the settled records, and one more
@@ -136,7 +137,7 @@ module _ (s : List ℕ) (g : Given s) (o : isSet (outstandingOf s) ≡ true) whe
 
   -- 14
   collected-good : (n room : ℕ) → n ≤ mostBudget → removalRoom s (removalOf s) ≡ room → removalOf s .collected + n < room → Turn s (effect (collectedEvent (removalOf s .channel) n) (withRemoval s (collecting (removalOf s) n)) []) → Good s (effect (collectedEvent (removalOf s .channel) n) (withRemoval s (collecting (removalOf s) n)) [])
-  unfolding fieldsOf read pick collecting addedPages removalRoom resultsSound needed
+  unfolding fieldsOf read pick collecting addedPages removalRoom resultsSound
   collected-good n room l e h turn =
       let a = loaded-arrays s in
       let f = facts in
@@ -156,7 +157,7 @@ module _ (s : List ℕ) (g : Given s) (o : isSet (outstandingOf s) ≡ true) whe
         results = f .results;
       })
       (λ blocks removal. turn)
-      (removing-shown s g o)
+      (collected-needs _ _ _ n (removing-shown s g o))
 
   -- the record at the position, with a block of the list and no more pages than it has
   settles-here : (k n : ℕ) → k < blocksOf s → removalOf s .collected + n ≤ blockAt s k .pages → settles (removalOf s .position) n k (viewOf s .blocks) (viewOf s .removal) ≡ true
@@ -169,7 +170,7 @@ module _ (s : List ℕ) (g : Given s) (o : isSet (outstandingOf s) ≡ true) whe
 
   -- 15, NOWORK
   nowork-good : (block : ℕ) → block < blocksOf s → removalOf s .collected ≡ 0 → removalOf s .position < removalOf s .count → Turn s (effect (settledEvent (removalOf s .channel) (removalOf s .position) DR-MEM-RES-NOWORK 0 block) (withRemoval s (settled (removalOf s) DR-MEM-RES-NOWORK)) []) → Good s (effect (settledEvent (removalOf s .channel) (removalOf s .position) DR-MEM-RES-NOWORK 0 block) (withRemoval s (settled (removalOf s) DR-MEM-RES-NOWORK)) [])
-  unfolding fieldsOf read pick steppedRemoval needed
+  unfolding fieldsOf read pick steppedRemoval
   nowork-good block kb none h turn =
       removal-changed s g (settledEvent (removalOf s .channel) (removalOf s .position) DR-MEM-RES-NOWORK 0 block) []
       (settled (removalOf s) DR-MEM-RES-NOWORK)
@@ -179,11 +180,11 @@ module _ (s : List ℕ) (g : Given s) (o : isSet (outstandingOf s) ≡ true) whe
       short-empty
       (settled-facts s DR-MEM-RES-NOWORK h nowork-result)
       (λ blocks removal. turn)
-      (settles-here block 0 kb (omega arith))
+      (settled-needs _ _ _ _ _ _ block (removing-shown s g o) (settles-here block 0 kb (omega arith)))
 
   -- 15, OK: the block's flag falls as well
   taken-good : (k n : ℕ) → removalOf s .position < removalOf s .count → n ≤ mostBudget → k < blocksOf s → removalOf s .collected + n ≤ blockAt s k .pages → blockAt s k .permanent ≡ 0 → Turn s (effect (settledEvent (removalOf s .channel) (removalOf s .position) DR-MEM-RES-OK n k) (withRemoval (withConfigured s k 0) (settled (removalOf s) DR-MEM-RES-OK)) []) → Good s (effect (settledEvent (removalOf s .channel) (removalOf s .position) DR-MEM-RES-OK n k) (withRemoval (withConfigured s k 0) (settled (removalOf s) DR-MEM-RES-OK)) [])
-  unfolding fieldsOf read pick steppedRemoval seeBlocks seeRemoval settled needed
+  unfolding fieldsOf read pick steppedRemoval seeBlocks seeRemoval settled
   taken-good k n h l kb most z turn =
       let w = shape s g in
       let few : k < mostBlocks = omega (arith, w .few) in
@@ -202,7 +203,7 @@ module _ (s : List ℕ) (g : Given s) (o : isSet (outstandingOf s) ≡ true) whe
             removes-made (withConfigured s k 0) (lastOf s + 1) (settled (removalOf s) DR-MEM-RES-OK) (w′ .size) (w′ .few) (settled-arrays DR-MEM-RES-OK)
             (settled-facts (withConfigured s k 0) DR-MEM-RES-OK h ok-result);
         turn = turn;
-        need = settles-here k n kb most;
+        need = settled-needs _ _ _ _ _ n k (removing-shown s g o) (settles-here k n kb most);
       }
 
   -- 16
@@ -217,7 +218,7 @@ module _ (s : List ℕ) (g : Given s) (o : isSet (outstandingOf s) ≡ true) whe
       failing Nowhere = unfold failingCode in (omega arith)
 
   end-good : (replied : ℕ) (reply : List ℕ) → replied ≤ 1 → length reply ≤ outputBytes → Turn s (effect (removalEndEvent (removalOf s .channel) (endCode s (removalOf s)) replied (removalOf s .request)) (withoutRemoval s) reply) → Good s (effect (removalEndEvent (removalOf s .channel) (endCode s (removalOf s)) replied (removalOf s .request)) (withoutRemoval s) reply)
-  unfolding fieldsOf read pick needed
+  unfolding fieldsOf read pick
   end-good replied reply r f turn = record {
     entry = end-fits _ _ (next-number s g) (facts .channels) _ replied _ code-small r;
     moves = without-moves s (shape s g);
@@ -225,7 +226,7 @@ module _ (s : List ℕ) (g : Given s) (o : isSet (outstandingOf s) ≡ true) whe
     base = base-without s (lastOf s + 1) (base-now s g);
     removal = removes-none (withoutRemoval s) (lastOf s + 1) (without-outstanding s (g .size));
     turn = turn;
-    need = removing-shown s g o;
+    need = end-needs _ _ _ _ replied _ (removing-shown s g o);
   }
 
   ending-good : Turn s (ending s (removalOf s)) → Good s (ending s (removalOf s))
