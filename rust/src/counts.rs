@@ -1,14 +1,18 @@
 //! What a list of calls reached, counted from the input and a host's output.
 
+mod numbers;
+
 use crate::comparing::Tally;
+use crate::entry::{CODE, COUNT, KIND};
 use crate::lines::{Call, Line};
 use crate::memory::{self, PAIR_BYTES, QUERY_BYTES, RECORDS_START, RESULT_BYTES};
 use crate::wire::{self, get32, get64};
+use numbers::Numbers;
 use std::collections::BTreeMap;
 use std::fmt::{self, Display, Formatter};
 
 /// The counts that any long list of calls must reach, as groups of members.
-const MUST_REACH: [(&str, &str); 27] = [
+const MUST_REACH: [(&str, &str); 30] = [
     ("call setup", "accepted, refused"),
     ("call receive", "accepted, refused"),
     ("call offer", "accepted, refused"),
@@ -66,6 +70,9 @@ const MUST_REACH: [(&str, &str); 27] = [
         "none permanent, part permanent, wholly permanent, size 0",
     ),
     ("STATUS reply", "idle, open, total 0"),
+    ("number refused", numbers::REFUSED),
+    ("number first", numbers::FIRST),
+    ("number accepted", numbers::ACCEPTED),
 ];
 
 /// The names of the counts that any long list of calls must reach.
@@ -84,6 +91,7 @@ fn must_reach() -> Vec<String> {
     for name in REQUESTS {
         let answers = ["OK", "ERROR", "NACK"];
         names.extend(answers.map(|answer| format!("memory received {name} -> {answer}")));
+        names.extend(["equal", "lower"].map(|how| format!("number refused {name} {how}")));
     }
     names
 }
@@ -145,6 +153,7 @@ fn result_name(result: u32) -> &'static str {
 pub struct Counts {
     listed: BTreeMap<String, u64>,
     made: Option<[u64; 9]>,
+    numbers: Numbers,
 }
 
 impl Default for Counts {
@@ -152,6 +161,7 @@ impl Default for Counts {
         Counts {
             listed: must_reach().into_iter().map(|name| (name, 0)).collect(),
             made: None,
+            numbers: Numbers::default(),
         }
     }
 }
@@ -162,7 +172,12 @@ impl Tally for Counts {
         match Line::read(line) {
             Line::PassedOver => self.add("line passed over".into()),
             Line::Bad => self.add("line bad".into()),
-            Line::Call(call) => self.call(&call, &output),
+            Line::Call(call) => {
+                self.call(&call, &output);
+                for name in self.numbers.call(&call) {
+                    self.add(name);
+                }
+            }
         }
     }
 
@@ -217,13 +232,13 @@ impl Counts {
     fn entry(&mut self, words: &str) {
         let first = words.split(' ').next().unwrap_or_default();
         let first = u64::from_str_radix(first, 16).unwrap_or(0);
-        let (kind, code) = (first >> 27 & 31, first >> 16 & 7);
+        let (kind, code) = (KIND.of(first), CODE.of(first));
         self.add(format!("entry kind {kind:2}"));
         if [10, 15, 16].contains(&kind) {
             self.add(format!("entry code {kind}/{code}"));
         }
         if kind == 16 {
-            let sent = if first & 0xffff == 1 {
+            let sent = if COUNT.of(first) == 1 {
                 "with"
             } else {
                 "without"

@@ -41,9 +41,9 @@ pub enum Code {
 /// One result for each of a request's records, the first `count` of them.
 pub type Codes = [Code; MAX_RECORDS];
 
-/// The pairs of a good request, as they stand in the message: 1 to 16.
+/// The pairs of a request, as they stand in the message: 1 to 16.
 #[derive(Clone, Copy)]
-struct Pairs<'a>(&'a [[u8; PAIR_BYTES]]);
+pub(crate) struct Pairs<'a>(&'a [[u8; PAIR_BYTES]]);
 
 impl<'a> Pairs<'a> {
     /// The pairs that follow the header, if they are as the argument says.
@@ -61,8 +61,8 @@ impl<'a> Pairs<'a> {
     }
 }
 
-/// A good request.
-enum Request<'a> {
+/// A request of right form.
+pub(crate) enum Request<'a> {
     Configure(Pairs<'a>),
     Unconfigure(Pairs<'a>),
     Query(Pairs<'a>),
@@ -71,9 +71,9 @@ enum Request<'a> {
 }
 
 impl Request<'_> {
-    /// The request, if it is good. `data` has at least the header.
-    fn read(data: &[u8]) -> Option<Request<'_>> {
-        let (header, rest) = data.split_at(HEADER);
+    /// The request, if its form is right.
+    pub(crate) fn read(data: &[u8]) -> Option<Request<'_>> {
+        let (header, rest) = data.split_at_checked(HEADER)?;
         let argument = get32(header, 4);
         let bare = argument == 0 && rest.is_empty();
         match get32(header, 0) {
@@ -181,22 +181,42 @@ fn permanent(pair: Pair, named: Option<&Block>) -> [u64; 3] {
     [bytes, first, first.wrapping_add(bytes - 1)]
 }
 
-/// Answers data that reached service 0 on `channel` under `handle`.
-pub fn answer(state: &mut State, channel: u64, handle: u64, data: &[u8], out: &mut [u8]) -> Done {
-    let headed = data.len() >= HEADER;
-    let request = if headed { get64(data, 8) } else { 0 };
+/// The number of a memory message, 0 if it has not the whole header.
+pub(crate) fn request_number(data: &[u8]) -> u64 {
+    match data.len() {
+        HEADER.. => get64(data, 8),
+        _ => 0,
+    }
+}
+
+/// Answers data that reached service 0 on channel `at` under `handle`: ERROR
+/// if its form is not right or its number does not rise.
+pub fn answer(state: &mut State, at: usize, handle: u64, data: &[u8], out: &mut [u8]) -> Done {
+    let request = request_number(data);
     let mut reply = Reply {
         out,
         handle,
         request,
     };
-    match headed.then(|| Request::read(data)).flatten() {
-        Some(good) => good.answer(state, channel, reply),
-        None => {
+    match Request::read(data) {
+        Some(good) if rises(&mut state.highest[at], request) => {
+            good.answer(state, at as u64, reply)
+        }
+        _ => {
             let length = reply.headers(ERROR, 0, 0);
             (answered(Answer::Error, request), length)
         }
     }
+}
+
+/// Whether the number of a request of right form is above the highest of its
+/// registration, which it is from then on.
+fn rises(highest: &mut Option<u64>, number: u64) -> bool {
+    let above = highest.is_none_or(|highest| number > highest);
+    if above {
+        *highest = Some(number);
+    }
+    above
 }
 
 /// The entry of an answer that changed nothing.

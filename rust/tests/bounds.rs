@@ -85,16 +85,20 @@ fn drain_runs() {
 fn outputs_of_671_and_672_bytes() {
     let mut bench = Bench::with_memory();
     let pairs: Vec<Pair> = (1..=16).map(|addr| Pair { addr, size: 1 }).collect();
-    let query = build::data(2, &build::request(memory::QUERY, 1, &pairs));
+    let query = |number| build::data(2, &build::request(memory::QUERY, number, &pairs));
     bench.out.truncate(671);
     let before = bench.clone();
-    assert_eq!(bench.receive(2, &query), Err(2));
+    assert_eq!(bench.receive(2, &query(1)), Err(2));
     assert_eq!(bench.close(0), Err(2));
     assert_eq!(bench, before);
+    let length = |bench: &mut Bench, number| {
+        let reply = bench.receive(2, &query(number));
+        reply.map(|reply| reply.len())
+    };
     bench.out.push(0xee);
-    assert_eq!(bench.receive(2, &query).map(|reply| reply.len()), Ok(672));
+    assert_eq!(length(&mut bench, 1), Ok(672));
     bench.out.resize(4096, 0xee);
-    assert_eq!(bench.receive(2, &query).map(|reply| reply.len()), Ok(672));
+    assert_eq!(length(&mut bench, 2), Ok(672));
 }
 
 #[test]

@@ -92,6 +92,46 @@ const OTHER: Pair = Pair {
     size: 8_192,
 };
 
+/// The counts that a list reaches, of those that begin so.
+fn reached(list: &str, start: &str) -> Vec<String> {
+    let zeros = count(list).zeros();
+    let all = Counts::default().zeros().into_iter();
+    all.filter(|name| name.starts_with(start) && !zeros.contains(name))
+        .collect()
+}
+
+#[test]
+fn counts_of_numbers() {
+    let cancel = |number| build::request(memory::CANCEL, number, &[]);
+    let bad = build::memory(memory::QUERY, 2, 5, &[BLOCK]);
+    let list = memory_list(&[bad, cancel(4), cancel(4), cancel(3), cancel(5), cancel(7)]);
+    let mut expected = vec![
+        "number refused CANCEL equal",
+        "number refused CANCEL lower",
+        "number first other",
+        "number accepted higher by 1",
+        "number accepted higher by more",
+        "number accepted not above one of bad form",
+    ];
+    expected.sort();
+    let mut names = reached(&list, "number");
+    names.sort();
+    assert_eq!(names, expected);
+    // A second registration, whose first number is not above the first's.
+    let again = receive(&build::reg_ack(11, 0)) + &receive(&build::data(11, &cancel(0)));
+    let list = list + "withdraw 0 0\noffer 0 0\n" + &again;
+    let first = [
+        "number first 0",
+        "number first other",
+        "number first not above an earlier registration's",
+    ];
+    assert_eq!(reached(&list, "number first"), first);
+    // A request that a removal would block.
+    let remove = build::request(memory::UNCONFIGURE, 2, &[BLOCK]);
+    let list = memory_list(&[remove.clone(), remove]);
+    assert_eq!(reached(&list, "number refused before").len(), 1);
+}
+
 #[test]
 fn counts_of_repeats() {
     let requests = [
@@ -100,14 +140,8 @@ fn counts_of_repeats() {
         build::request(memory::CONFIGURE, 3, &[OTHER, OTHER]),
     ];
     let list = memory_list(&requests) + "work 1\nwork 1\nwork 1\n";
-    let zeros = count(&list).zeros();
-    let reached: Vec<String> = Counts::default()
-        .zeros()
-        .into_iter()
-        .filter(|name| name.starts_with("repeat in") && !zeros.contains(name))
-        .collect();
     assert_eq!(
-        reached,
+        reached(&list, "repeat in"),
         [
             "repeat in CONFIGURE adjacent",
             "repeat in CONFIGURE BLOCKED then BLOCKED",

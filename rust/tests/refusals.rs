@@ -280,13 +280,15 @@ fn more_unsound_removals() {
 
 #[test]
 fn made_states_that_are_sound() {
-    let changes: [Spoil; 7] = [
+    let changes: [Spoil; 9] = [
         |state| removal(state).handle = 0,
         |state| removal(state).cancelled = true,
         |state| (removal(state).position, removal(state).collected) = (2, 0),
         |state| (removal(state).records[0], removal(state).collected) = (B, 1),
         |state| removal(state).records[1] = A,
         |state| state.held = 0,
+        |state| state.highest = [Some(u64::MAX); 4],
+        |state| state.highest = [None; 4],
         |state| {
             state.channels[2].services[0] = Service::Registered {
                 handle: 5,

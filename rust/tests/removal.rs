@@ -6,7 +6,7 @@ use independent::{build, memory};
 
 fn status(bench: &mut Bench) -> Vec<u8> {
     let reply = bench.request(memory::UNCONF_STATUS, &[]);
-    assert_eq!(bench.last_entry(), (10, 0, 0, 0, 9));
+    assert_eq!(bench.last_entry(), (10, 0, 0, 0, bench.number));
     assert_eq!(reply[..4], [0, 0, 0, 0x6f]);
     reply[7..8].iter().chain(&reply[16..]).copied().collect()
 }
@@ -28,7 +28,7 @@ fn configure_in_order() {
     assert_eq!(bench.last_entry(), (11, 0, 0, 0, 0b100));
     let reply = bench.request(memory::CONFIGURE, &[UNKNOWN, C]);
     assert_eq!(results(&reply), [(1, 0), (1, 2)]);
-    assert_eq!(bench.last_entry(), (10, 0, 0, 0, 9));
+    assert_eq!(bench.last_entry(), (10, 0, 0, 0, 10));
 }
 
 #[test]
@@ -77,24 +77,24 @@ fn status_at_each_stage() {
 
 #[test]
 fn cancel_at_each_stage() {
-    let idle = hex("0000006f 00000000 0000000000000009");
+    let ok = |number: u64| hex(&format!("0000006f 00000000 {number:016x}"));
     for steps in 0..5 {
         let mut bench = Bench::with_memory();
-        assert_eq!(bench.cancel(), idle);
+        assert_eq!(bench.cancel(), ok(9));
         assert_eq!(bench.last_entry(), (10, 0, 0, 0, 9));
         bench.unconfigure(&[A, C, D]);
         for _ in 0..steps {
             bench.work(2).unwrap();
         }
-        assert_eq!(bench.cancel(), idle);
-        assert_eq!(bench.last_entry(), (13, 0, 0, 0, 9));
+        assert_eq!(bench.cancel(), ok(11));
+        assert_eq!(bench.last_entry(), (13, 0, 0, 0, 11));
         let marked = bench.state.removal.unwrap();
         assert!(marked.cancelled && marked.collected == 0);
-        assert_eq!(bench.cancel(), idle);
-        assert_eq!(bench.last_entry(), (10, 0, 0, 0, 9));
+        assert_eq!(bench.cancel(), ok(12));
+        assert_eq!(bench.last_entry(), (10, 0, 0, 0, 12));
         assert_eq!(bench.state.removal, Some(marked));
         let (pages, reply) = bench.work(1).unwrap();
-        assert_eq!(bench.last_entry(), (16, 0, 3, 1, 9));
+        assert_eq!(bench.last_entry(), (16, 0, 3, 1, 10));
         let all = match steps {
             0 | 1 => [(3, 2), (3, 1), (3, 2)],
             2 => [(0, 1), (3, 1), (3, 2)],
@@ -112,7 +112,7 @@ fn blocked_while_outstanding() {
     for memory_type in [memory::CONFIGURE, memory::UNCONFIGURE] {
         let reply = bench.request(memory_type, &[C, UNKNOWN, D]);
         assert_eq!(results(&reply), [(2, 1), (2, 0), (2, 2)]);
-        assert_eq!(bench.last_entry(), (10, 0, 2, 0, 9));
+        assert_eq!(bench.last_entry(), (10, 0, 2, 0, bench.number));
     }
     assert!(!bench.state.blocks.list[2].configured);
 }

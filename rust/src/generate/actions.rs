@@ -1,11 +1,12 @@
 //! What a step may do.
 
 use super::messages::{self, Live};
+use super::random::Random;
 use super::Generator;
 use crate::block::PAGE;
 use crate::lines::Call;
 use crate::removal::MAX_BUDGET;
-use crate::state::{Service, SERVICES};
+use crate::state::{Service, State, SERVICES};
 use crate::{build, memory, wire};
 
 /// An action, its weight, and whether it tends to undo what was built up.
@@ -87,27 +88,36 @@ impl Generator {
         }
     }
 
-    /// Sends a memory message where `dr-mem` is registered.
-    fn send_memory(&mut self, message: &[u8]) {
-        match self.memory_place() {
-            Some(live) => self.receive(live.channel, build::data(live.handle, message)),
-            None => self.prepare_memory(),
+    /// Sends a memory message where `dr-mem` is registered, or begins a
+    /// registration anew whose request numbers are used up.
+    fn send_memory(&mut self, make: impl FnOnce(&mut Random, &State, u64) -> Vec<u8>) {
+        let Some(live) = self.memory_place() else {
+            return self.prepare_memory();
+        };
+        let used_up = self.state().highest[live.channel as usize] == Some(u64::MAX);
+        if used_up && self.random.once_in(2) {
+            self.call(Call::Withdraw(live.channel, 0));
+            for _ in 0..2 {
+                self.towards(live.channel, 0);
+            }
+            return;
         }
+        let message = make(&mut self.random, &self.host.state, live.channel);
+        self.receive(live.channel, build::data(live.handle, &message));
     }
 
     fn request(&mut self, memory_type: u32) {
-        let message = messages::request(&mut self.random, &self.host.state, memory_type);
-        self.send_memory(&message);
+        self.send_memory(|random, state, channel| {
+            messages::request(random, state, channel, memory_type)
+        });
     }
 
     fn good_memory(&mut self) {
-        let message = messages::good_memory(&mut self.random, &self.host.state);
-        self.send_memory(&message);
+        self.send_memory(messages::good_memory);
     }
 
     fn bad_memory(&mut self) {
-        let message = messages::bad_memory(&mut self.random, &self.host.state);
-        self.send_memory(&message);
+        self.send_memory(messages::bad_memory);
     }
 
     /// Begins a removal, or does something to the one outstanding.
@@ -218,7 +228,7 @@ impl Generator {
         let handle = self.handle(channel);
         let message = match self.random.once_in(2) {
             true => messages::host_data(&mut self.random),
-            false => messages::good_memory(&mut self.random, &self.host.state),
+            false => messages::good_memory(&mut self.random, &self.host.state, channel),
         };
         self.receive(channel, build::data(handle, &message));
     }

@@ -84,11 +84,11 @@ pub fn any(random: &mut Random, state: &State, channel: u64) -> Vec<u8> {
         5 | 6 => noted(random, handle),
         7 => build::data(handle, &host_data(random)),
         8 => {
-            let message = good_memory(random, state);
+            let message = good_memory(random, state, channel);
             build::data(handle, &message)
         }
         _ => {
-            let message = bad_memory(random, state);
+            let message = bad_memory(random, state, channel);
             build::data(handle, &message)
         }
     }
@@ -259,7 +259,7 @@ fn record_count(random: &mut Random) -> u64 {
     }
 }
 
-/// The pairs of a good request, 1 to 16, a third of the lists with repeats.
+/// The pairs of a request of right form, 1 to 16, a third of the lists with repeats.
 fn good_pairs(random: &mut Random, state: &State, memory_type: u32) -> Vec<Pair> {
     let plain: fn(&Block) -> bool = match memory_type {
         memory::CONFIGURE => |block| !block.configured,
@@ -281,14 +281,48 @@ fn good_pairs(random: &mut Random, state: &State, memory_type: u32) -> Vec<Pair>
     list
 }
 
-fn request_number(random: &mut Random) -> u64 {
+/// A number for the first request of a registration: any, seldom so high that
+/// none or few can follow.
+fn first_number(random: &mut Random) -> u64 {
     let any = random.next();
-    random.pick(&[0, 1, 9, any >> 32, any, u64::MAX])
+    match random.weighted(&[20, 15, 10, 25, 20, 4, 4, 2]) {
+        0 => 0,
+        1 => 1,
+        2 => 9,
+        3 => any >> 32,
+        4 => any >> 1,
+        5 => any,
+        6 => u64::MAX,
+        _ => u64::MAX - 1,
+    }
 }
 
-/// A good request of one type.
-pub fn request(random: &mut Random, state: &State, memory_type: u32) -> Vec<u8> {
-    let number = request_number(random);
+/// A number for a request on `channel`: mostly above the highest of the
+/// registration there, else equal to it, below it, or another channel's.
+fn request_number(random: &mut Random, state: &State, channel: u64) -> u64 {
+    let here = state.highest.get(channel as usize).copied().flatten();
+    let Some(highest) = here else {
+        return first_number(random);
+    };
+    let room = u64::MAX - highest;
+    let other = random.pick(&state.highest).unwrap_or(0);
+    match random.weighted(&[600, 150, 50, 20, 2, 60, 50, 40, 8, 20]) {
+        0 => highest.saturating_add(1),
+        1 => highest.saturating_add(random.between(2, 1_000)),
+        2 => highest + random.up_to(room >> 32),
+        3 => highest + random.up_to(room),
+        4 => u64::MAX,
+        5 => highest,
+        6 => highest.saturating_sub(1),
+        7 => random.up_to(highest),
+        8 => 0,
+        _ => other,
+    }
+}
+
+/// A request of right form and one type, for `channel`.
+pub fn request(random: &mut Random, state: &State, channel: u64, memory_type: u32) -> Vec<u8> {
+    let number = request_number(random, state, channel);
     let bare = memory_type == memory::UNCONF_STATUS || memory_type == memory::CANCEL;
     let pairs = match bare {
         true => Vec::new(),
@@ -305,16 +339,16 @@ const REQUESTS: [u32; 5] = [
     memory::QUERY,
 ];
 
-/// A good request of any type.
-pub fn good_memory(random: &mut Random, state: &State) -> Vec<u8> {
+/// A request of right form and any type, for `channel`.
+pub fn good_memory(random: &mut Random, state: &State, channel: u64) -> Vec<u8> {
     let memory_type = REQUESTS[random.weighted(&[30, 25, 15, 8, 30])];
-    request(random, state, memory_type)
+    request(random, state, channel, memory_type)
 }
 
 /// A memory message that is spoilt in one way; a few turn out good.
-pub fn bad_memory(random: &mut Random, state: &State) -> Vec<u8> {
+pub fn bad_memory(random: &mut Random, state: &State, channel: u64) -> Vec<u8> {
     let memory_type = random.pick(&REQUESTS);
-    let mut message = request(random, state, memory_type);
+    let mut message = request(random, state, channel, memory_type);
     let length = message.len() as u64;
     let argument = u32::from(message[7]);
     let wrong = [
@@ -342,7 +376,8 @@ pub fn bad_memory(random: &mut Random, state: &State) -> Vec<u8> {
         5 => {
             let count = random.pick(&[0, 17, 17, 18]);
             let list = pairs(random, state, count);
-            message = build::request(memory_type, request_number(random), &list);
+            let number = request_number(random, state, channel);
+            message = build::request(memory_type, number, &list);
         }
         _ => message.resize(wire::MAX_PAYLOAD - 8, 0),
     }

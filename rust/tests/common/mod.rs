@@ -56,6 +56,8 @@ pub struct Bench {
     pub state: State,
     pub journal: Vec<u64>,
     pub out: Vec<u8>,
+    /// The number of the last `request`; the first has 9, as on the day.
+    pub number: u64,
 }
 
 pub type Reply = Result<Vec<u8>, u64>;
@@ -66,6 +68,7 @@ impl Bench {
             state: setup(list).unwrap(),
             journal: vec![0xdead; 128],
             out: vec![0xee; 672],
+            number: 8,
         }
     }
 
@@ -151,9 +154,10 @@ impl Bench {
         reply[16..].to_vec()
     }
 
-    /// Sends a request of pairs under request number 9.
+    /// Sends a request of pairs under the next request number.
     pub fn request(&mut self, memory_type: u32, pairs: &[Pair]) -> Vec<u8> {
-        self.ask(&build::request(memory_type, 9, pairs))
+        self.number += 1;
+        self.ask(&build::request(memory_type, self.number, pairs))
     }
 
     pub fn unconfigure(&mut self, pairs: &[Pair]) {
