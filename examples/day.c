@@ -20,7 +20,8 @@ static uint64_t receive(uint64_t *state, const uint8_t *message, size_t bytes)
 
 static uint64_t work(uint64_t *state, uint64_t pages)
 {
-    return arkelutz_work(state, pages, journal, ARKELUTZ_JOURNAL_WORDS, out, sizeof out).refusal;
+    uint64_t moved;
+    return arkelutz_work(state, pages, journal, ARKELUTZ_JOURNAL_WORDS, out, sizeof out, &moved).refusal;
 }
 
 int main(void)
@@ -32,9 +33,8 @@ int main(void)
                                             0,    0, 0x4d, 0x55, 0, 0, 0, 1, 0, 0, 0, 0, 0, 0, 0, 9,
                                             0,    0,    0, 0, 0x10, 0, 0, 0, 0, 0, 0, 0, 0, 0, 0x80, 0};
     uint64_t run[ARKELUTZ_JOURNAL_WORDS];
-    struct arkelutz_started started = arkelutz_setup(blocks, sizeof blocks / sizeof *blocks);
-    uint64_t *state = started.state;
-    uint64_t refused = started.refusal;
+    uint64_t state[ARKELUTZ_STATE_WORDS];
+    uint64_t refused = arkelutz_setup(state, blocks, sizeof blocks / sizeof *blocks);
 
     refused |= receive(state, init_1_0, sizeof init_1_0);
     refused |= arkelutz_offer(state, CHANNEL, MEMORY_SERVICE, journal, ARKELUTZ_JOURNAL_WORDS, out, sizeof out).refusal;

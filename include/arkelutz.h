@@ -1,11 +1,13 @@
 /*
- * The agent's calls, for C: link target/staticlib/libexports.a, which `rt staticlib exports` writes.
+ * The agent's calls, for C: link target/staticlib/libexports.a, which `rt staticlib exports` writes, or, for SPARC V9,
+ * target/sparc64/libarkelutz.a, which sparc/build writes.
  *
  * Every call checks all that it is given and is proved to do nothing undefined on any state words, lengths and numbers. What C must
  * see to: each pointer has as many elements as the length beside it says, state has ARKELUTZ_STATE_WORDS words, and no two things
  * that one call is lent overlap where one of them is written.
  *
- * refusal is 0 where the call was accepted, else the number of document 01 (1 to 8); then nothing was written anywhere.
+ * refusal is 0 where the call was accepted, else the number of document 01 (1 to 8); then nothing was written anywhere, but by
+ * arkelutz_setup the state of the empty list, and by arkelutz_work 0 to pages.
  * Nothing is allocated or kept between calls: the state and the journal are the caller's.
  */
 #ifndef ARKELUTZ_H
@@ -22,20 +24,9 @@ extern "C" {
 #define ARKELUTZ_JOURNAL_WORDS 128 /* every call but setup and show asks for a journal of just this length */
 #define ARKELUTZ_OUTPUT_BYTES 672  /* and, but for drain, for an output of this length or more */
 
-struct arkelutz_started {
-    uint64_t refusal; /* 0 or 7 */
-    uint64_t state[ARKELUTZ_STATE_WORDS];
-};
-
 struct arkelutz_answer {
     uint64_t refusal;
     size_t length; /* of the reply, at the start of the output */
-};
-
-struct arkelutz_worked {
-    uint64_t refusal;
-    size_t length;
-    uint64_t pages; /* moved by this step */
 };
 
 struct arkelutz_drained {
@@ -43,8 +34,8 @@ struct arkelutz_drained {
     size_t entries; /* at the start of the run, two words each */
 };
 
-/* Takes a block list, five words a block, and gives the first state. */
-struct arkelutz_started arkelutz_setup(const uint64_t *list, size_t list_words);
+/* Takes a block list, five words a block, writes the first state, and returns the refusal, 0 or 7. */
+uint64_t arkelutz_setup(uint64_t *state, const uint64_t *list, size_t list_words);
 
 /* Receives a message on a channel. */
 struct arkelutz_answer arkelutz_receive(uint64_t *state, size_t channel, const uint8_t *message, size_t message_bytes,
@@ -60,9 +51,9 @@ struct arkelutz_answer arkelutz_withdraw(uint64_t *state, size_t channel, size_t
 struct arkelutz_answer arkelutz_close(uint64_t *state, size_t channel, uint64_t *journal, size_t journal_words,
                                       uint8_t *out, size_t out_bytes);
 
-/* Does one step of the outstanding removal, with a budget of 1 to 65,535 pages. */
-struct arkelutz_worked arkelutz_work(uint64_t *state, uint64_t budget, uint64_t *journal, size_t journal_words,
-                                     uint8_t *out, size_t out_bytes);
+/* Does one step of the outstanding removal, with a budget of 1 to 65,535 pages, and writes the pages that it moved. */
+struct arkelutz_answer arkelutz_work(uint64_t *state, uint64_t budget, uint64_t *journal, size_t journal_words,
+                                     uint8_t *out, size_t out_bytes, uint64_t *pages);
 
 /* Copies the oldest entries to the start of a run, as many whole ones as are held and fit, and forgets them. */
 struct arkelutz_drained arkelutz_drain(uint64_t *state, const uint64_t *journal, size_t journal_words, uint64_t *run,

@@ -1,10 +1,12 @@
 //! The proved agent, by its static library. Nothing checks these declarations
 //! against crates/exports but the comparisons of results in this package.
 
-/// The agent's state.
-pub type Words = [u64; 199];
+const STATE_WORDS: usize = 199;
 
-#[repr(C)]
+/// The agent's state.
+pub type Words = [u64; STATE_WORDS];
+
+/// Setup's answer.
 pub struct Started {
     pub refusal: u64,
     pub state: Words,
@@ -16,7 +18,7 @@ pub struct Answer {
     pub length: usize,
 }
 
-#[repr(C)]
+/// Work's answer.
 pub struct Worked {
     pub refusal: u64,
     pub length: usize,
@@ -30,7 +32,7 @@ pub struct Drained {
 }
 
 extern "C" {
-    fn arkelutz_setup(list: *const u64, words: usize) -> Started;
+    fn arkelutz_setup(state: *mut Words, list: *const u64, words: usize) -> u64;
     fn arkelutz_receive(
         state: *mut Words,
         channel: usize,
@@ -74,7 +76,8 @@ extern "C" {
         journal_words: usize,
         out: *mut u8,
         out_bytes: usize,
-    ) -> Worked;
+        pages: *mut u64,
+    ) -> Answer;
     fn arkelutz_drain(
         state: *mut Words,
         journal: *const u64,
@@ -92,7 +95,9 @@ extern "C" {
 
 #[inline]
 pub fn setup(list: &[u64]) -> Started {
-    unsafe { arkelutz_setup(list.as_ptr(), list.len()) }
+    let mut state = [0; STATE_WORDS];
+    let refusal = unsafe { arkelutz_setup(&mut state, list.as_ptr(), list.len()) };
+    Started { refusal, state }
 }
 
 #[inline]
@@ -175,7 +180,9 @@ pub fn close(state: &mut Words, channel: u64, journal: &mut [u64], out: &mut [u8
 
 #[inline]
 pub fn work(state: &mut Words, budget: u64, journal: &mut [u64], out: &mut [u8]) -> Worked {
-    unsafe {
+    // a step writes it always; a value that no step moves would show one that does not
+    let mut pages = u64::MAX;
+    let answer = unsafe {
         arkelutz_work(
             state,
             budget,
@@ -183,7 +190,13 @@ pub fn work(state: &mut Words, budget: u64, journal: &mut [u64], out: &mut [u8])
             journal.len(),
             out.as_mut_ptr(),
             out.len(),
+            &mut pages,
         )
+    };
+    Worked {
+        refusal: answer.refusal,
+        length: answer.length,
+        pages,
     }
 }
 

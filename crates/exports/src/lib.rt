@@ -1,9 +1,8 @@
-// The public calls under names for C and Rust to link: each is the agent's own call, with its contract.
+// The public calls under names for C and Rust to link: each is the agent's own call, with its contract. None returns more than two words, which every
+// 64-bit calling convention returns alike: what is longer is written to what the caller lends.
 use model::Answer;
 use model::Drained;
-use model::Started;
 use model::State;
-use model::Worked;
 ghost use Rattle.model.specs.Contracts.{
   SetupPost,
   ReceivePost,
@@ -18,11 +17,15 @@ ghost use Rattle.model.specs.Calls.{shown};
 ghost use lib.ListN.{length, take, drop};
 ghost use mathlib.Core.Path.{_≡_};
 
+// The state is written: that of the list, or that of the empty list where 7 is returned.
 #[no_mangle]
-pub extern "C" fn arkelutz_setup(list: &[u64]) -> Started
-    ensures { λ r. ⌜ SetupPost (record { blocks = now (list .entry) }) r ⌝ }
+pub extern "C" fn arkelutz_setup(state: &mut State, list: &[u64]) -> u64
+    ensures { λ r. ⌜ SetupPost (record { blocks = now (list .entry) }) (record { refusal = r; state = now (state .exit) }) ⌝ }
 {
-    agent::setup(list)
+    let started = agent::setup(list);
+    let words = started.state;
+    *state = words;
+    started.refusal
 }
 
 #[no_mangle]
@@ -76,16 +79,23 @@ pub extern "C" fn arkelutz_close(
     agent::close(state, channel, journal, out)
 }
 
+// The pages moved by this step are written to pages, 0 on a refusal.
 #[no_mangle]
 pub extern "C" fn arkelutz_work(
     state: &mut State,
     budget: u64,
     journal: &mut [u64],
     out: &mut [u8],
-) -> Worked
-    ensures { λ r. ⌜ WorkPost (now (state .entry)) (now (journal .entry)) budget (now (out .entry)) r (now (state .exit)) (now (journal .exit)) (now (out .exit)) ⌝ }
+    pages: &mut u64,
+) -> Answer
+    ensures { λ r. ⌜ WorkPost (now (state .entry)) (now (journal .entry)) budget (now (out .entry)) (record { refusal = r .refusal; length = r .length; pages = now (pages .exit) }) (now (state .exit)) (now (journal .exit)) (now (out .exit)) ⌝ }
 {
-    agent::work(state, budget, journal, out)
+    let worked = agent::work(state, budget, journal, out);
+    *pages = worked.pages;
+    Answer {
+        refusal: worked.refusal,
+        length: worked.length,
+    }
 }
 
 #[no_mangle]

@@ -1,0 +1,351 @@
+/*
+ * Calls on made states, the same on every machine: states CALLS SEED.
+ *
+ * A state is set up from a random block list and brought on by messages; before a call some of its words may be replaced by random ones.
+ * Each call writes a line with what it returned and a hash, which goes on from call to call, of every word of the state and the journal, every
+ * byte of the output and every word of the run after it; each WORDS_EVERY calls the state's words follow. At the end stand the answers of each
+ * call by refusal number. It fails if a call was never accepted, or no state was unsound.
+ */
+#include "arkelutz.h"
+
+#include <inttypes.h>
+#include <stdio.h>
+#include <stdlib.h>
+#include <string.h>
+
+#define CHANNELS 4
+#define SERVICES 4
+#define BLOCKS 16
+#define BLOCK_WORDS 5
+#define RECORDS 16
+#define PAGE 8192
+#define SPARE 28 /* bytes of output past those that a call asks for */
+#define MESSAGE_BYTES 640
+#define CALLS_A_STATE 80
+#define WORDS_EVERY 997
+#define REFUSALS 9
+#define UNSOUND 8
+
+enum call { SETUP, RECEIVE, OFFER, WITHDRAW, CLOSE, WORK, DRAIN, SHOW, CALLS };
+static const char *const names[CALLS] = {"setup", "receive", "offer", "withdraw", "close", "work", "drain", "show"};
+
+static uint64_t state[ARKELUTZ_STATE_WORDS], journal[ARKELUTZ_JOURNAL_WORDS], run[ARKELUTZ_JOURNAL_WORDS];
+static uint8_t out[ARKELUTZ_OUTPUT_BYTES + SPARE], message[MESSAGE_BYTES];
+static size_t message_bytes;
+static uint64_t list[BLOCKS * BLOCK_WORDS + 1];
+static size_t list_words;
+static uint64_t handles[CHANNELS][SERVICES], request;
+static uint64_t counts[CALLS][REFUSALS], parts, done, seed, hash = 14695981039346656037u;
+
+static uint64_t any(void) /* splitmix64 */
+{
+    uint64_t z = seed += 0x9e3779b97f4a7c15u;
+    z = (z ^ z >> 30) * 0xbf58476d1ce4e5b9u;
+    z = (z ^ z >> 27) * 0x94d049bb133111ebu;
+    return z ^ z >> 31;
+}
+
+/* C leaves the order of an expression's operands open: no expression has two random numbers, but where one is asked for by another. */
+static uint64_t below(uint64_t n) { return any() % n; }
+
+/* a number of any size */
+static uint64_t sized(void)
+{
+    uint64_t shift = below(64);
+    return any() >> shift;
+}
+
+static void add(uint64_t word) { hash = (hash ^ word) * 1099511628211u; }
+
+static void add_words(const uint64_t *words, size_t count)
+{
+    for (size_t i = 0; i < count; i++)
+        add(words[i]);
+}
+
+static void print_words(void)
+{
+    for (size_t i = 0; i < ARKELUTZ_STATE_WORDS; i++)
+        printf("%016" PRIx64 "%c", state[i], i % 8 == 7 || i == ARKELUTZ_STATE_WORDS - 1 ? '\n' : ' ');
+}
+
+/* Writes what a call returned and left. */
+static void told(enum call call, uint64_t refusal, uint64_t length, uint64_t pages)
+{
+    add(call);
+    add(refusal);
+    add(length);
+    add(pages);
+    add_words(state, ARKELUTZ_STATE_WORDS);
+    add_words(journal, ARKELUTZ_JOURNAL_WORDS);
+    add_words(run, ARKELUTZ_JOURNAL_WORDS);
+    for (size_t i = 0; i < sizeof out; i++)
+        add(out[i]);
+    if (refusal >= REFUSALS) {
+        printf("%s: no such refusal: %" PRIu64 "\n", names[call], refusal);
+        exit(1);
+    }
+    counts[call][refusal]++;
+    printf("%s %" PRIu64 " %" PRIu64 " %" PRIu64 " %016" PRIx64 "\n", names[call], refusal, length, pages, hash);
+    if (++done % WORDS_EVERY == 0)
+        print_words();
+}
+
+static void put(uint64_t number, unsigned bytes)
+{
+    while (bytes-- > 0)
+        message[message_bytes++] = (uint8_t)(number >> 8 * bytes);
+}
+
+static void header(uint32_t type, uint32_t payload)
+{
+    message_bytes = 0;
+    put(type, 4);
+    put(payload, 4);
+}
+
+/* A handle of the channel, or any number. */
+static uint64_t handle_of(uint64_t channel, uint64_t service)
+{
+    return channel < CHANNELS && below(12) ? handles[channel][service] : sized();
+}
+
+/* A memory request: of blocks of the list, or of none. */
+static void put_request(uint64_t channel)
+{
+    static const uint16_t types[] = {0x4d43, 0x4d43, 0x4d55, 0x4d55, 0x4d51, 0x4d51, 0x4d53, 0x4d4e, 0x4d00};
+    uint64_t type = types[below(sizeof types / sizeof *types)];
+    uint64_t listed = list_words / BLOCK_WORDS;
+    uint64_t records = type == 0x4d53 || type == 0x4d4e ? 0 : 1 + below(below(4) ? 3 : RECORDS);
+
+    header(9, (uint32_t)(24 + 16 * records));
+    put(handle_of(channel, 0), 8);
+    put(type, 4);
+    put(records, 4);
+    put(below(10) ? ++request : sized(), 8);
+    for (uint64_t i = 0; i < records; i++) {
+        const uint64_t *block = list + BLOCK_WORDS * below(listed ? listed : 1);
+        put(below(10) ? block[0] : sized(), 8);
+        put(below(10) ? block[1] * PAGE : sized(), 8);
+    }
+}
+
+/* Data for a service of the host's own. */
+static void put_data(uint64_t channel)
+{
+    header(9, 24);
+    put(handle_of(channel, 1 + below(SERVICES - 1)), 8);
+    put(any(), 8);
+    put(any(), 8);
+}
+
+static void make_message(uint64_t channel)
+{
+    uint32_t type;
+    uint8_t bit;
+
+    switch (below(16)) {
+    case 0:
+        header(0, 4);
+        put(below(6) ? 1 : below(4), 2);
+        put(below(3), 2);
+        break;
+    case 1:
+    case 2:
+        header(4, 10);
+        put(handle_of(channel, below(SERVICES)), 8);
+        put(below(3), 2);
+        break;
+    case 3:
+        if (below(2)) {
+            header(5, 18);
+            put(handle_of(channel, below(SERVICES)), 8);
+            put(any(), 8);
+            put(1, 2);
+        } else {
+            header(6, 8);
+            put(handle_of(channel, below(SERVICES)), 8);
+        }
+        break;
+    case 4:
+        put_data(channel);
+        break;
+    case 5:
+        type = (uint32_t)below(12);
+        header(type, (uint32_t)(below(4) ? 16 : sized()));
+        put(any(), 8);
+        put(any(), 8);
+        break;
+    default:
+        put_request(channel);
+    }
+    if (below(40) == 0) {
+        bit = (uint8_t)(1 << below(8));
+        message[below(message_bytes)] ^= bit;
+    }
+    if (below(40) == 0)
+        message_bytes = below(message_bytes + 1);
+}
+
+static size_t journal_words(void) { return below(60) ? ARKELUTZ_JOURNAL_WORDS : below(ARKELUTZ_JOURNAL_WORDS); }
+static size_t out_bytes(void) { return below(60) ? ARKELUTZ_OUTPUT_BYTES + below(SPARE + 1) : below(ARKELUTZ_OUTPUT_BYTES); }
+
+static void receive(uint64_t channel)
+{
+    size_t words = journal_words(), bytes = out_bytes();
+    struct arkelutz_answer a = arkelutz_receive(state, channel, message, message_bytes, journal, words, out, bytes);
+    told(RECEIVE, a.refusal, a.length, 0);
+}
+
+static void offer(uint64_t channel, uint64_t service)
+{
+    size_t words = journal_words(), bytes = out_bytes();
+    struct arkelutz_answer a = arkelutz_offer(state, channel, service, journal, words, out, bytes);
+    told(OFFER, a.refusal, a.length, 0);
+    if (a.refusal)
+        return;
+    handles[channel][service] = 0;
+    for (size_t i = 8; i < 16; i++)
+        handles[channel][service] = handles[channel][service] << 8 | out[i];
+}
+
+static void begin(void)
+{
+    uint64_t blocks = below(6) ? 1 + below(6) : below(BLOCKS + 1), base = PAGE * below(1000);
+
+    memset(list, 0, sizeof list);
+    list_words = blocks * BLOCK_WORDS;
+    for (uint64_t i = 0; i < blocks; i++) {
+        uint64_t *block = list + i * BLOCK_WORDS, pages = 1 + below(below(3) ? 8 : 100000);
+        block[0] = base += PAGE * (below(2) ? 0 : below((uint64_t)1 << 40));
+        block[1] = pages;
+        block[4] = below(4) != 0;
+        if (block[4] && below(4) == 0) {
+            block[2] = below(pages);
+            block[3] = 1 + below(pages - block[2]);
+        }
+        base += PAGE * pages;
+    }
+    if (below(8) == 0) {
+        uint64_t word = sized();
+        list[below(list_words + 1)] = word;
+    }
+    if (below(30) == 0)
+        list_words = below(list_words + 2);
+    for (size_t i = 0; i < ARKELUTZ_STATE_WORDS; i++)
+        state[i] = any();
+    request = below(3) ? below(100) : any();
+    told(SETUP, arkelutz_setup(state, list, list_words), 0, 0);
+    for (uint64_t channel = 0; channel < CHANNELS; channel++) {
+        if (below(4) == 0)
+            continue;
+        header(0, 4);
+        put(1, 2);
+        put(0, 2);
+        receive(channel);
+        for (uint64_t service = 0; service < SERVICES; service++) {
+            if (service && below(2))
+                continue;
+            offer(channel, service);
+            header(4, 10);
+            put(handles[channel][service], 8);
+            put(0, 2);
+            receive(channel);
+        }
+    }
+}
+
+static void one_call(void)
+{
+    uint64_t channel = below(40) ? below(CHANNELS) : sized(), service = below(40) ? below(SERVICES) : sized(), pages = any();
+    size_t words = journal_words(), bytes = out_bytes(), run_words = below(6);
+    struct arkelutz_answer a;
+    struct arkelutz_drained d;
+
+    switch (below(16)) {
+    case 0:
+        offer(channel, service);
+        break;
+    case 1:
+        a = arkelutz_withdraw(state, channel, service, journal, words, out, bytes);
+        told(WITHDRAW, a.refusal, a.length, 0);
+        break;
+    case 2:
+        if (below(4))
+            channel += CHANNELS;
+        a = arkelutz_close(state, channel, journal, words, out, bytes);
+        told(CLOSE, a.refusal, a.length, 0);
+        break;
+    case 3:
+    case 4:
+    case 5:
+        a = arkelutz_work(state, below(20) ? 1 + below(below(2) ? 4 : 65535) : sized(), journal, words, out, bytes, &pages);
+        told(WORK, a.refusal, a.length, pages);
+        break;
+    case 6:
+        if (below(6) == 0)
+            run_words = ARKELUTZ_JOURNAL_WORDS;
+        d = arkelutz_drain(state, journal, words, run, run_words);
+        told(DRAIN, d.refusal, d.entries, 0);
+        break;
+    case 7:
+        make_message(channel);
+        if (below(2))
+            put_data(channel);
+        bytes = arkelutz_show(state, channel, message, message_bytes);
+        parts += bytes > 0;
+        told(SHOW, 0, bytes, 0);
+        break;
+    default:
+        make_message(channel);
+        receive(channel);
+    }
+}
+
+/* A call, now and then on a state of which one or two words were replaced. If that state is unsound, the words come back. */
+static void made_call(void)
+{
+    uint64_t kept[ARKELUTZ_STATE_WORDS], unsound = 0, after = 0;
+    int change = below(3) == 0;
+
+    memcpy(kept, state, sizeof state);
+    for (uint64_t i = change ? 1 + below(2) : 0; i > 0; i--) {
+        uint64_t word = below(3) ? sized() : below(2) ? below(5) : UINT32_MAX - below(2);
+        state[below(ARKELUTZ_STATE_WORDS)] = word;
+    }
+    for (size_t i = 0; i < CALLS; i++)
+        unsound += counts[i][UNSOUND];
+    one_call();
+    for (size_t i = 0; i < CALLS; i++)
+        after += counts[i][UNSOUND];
+    if (after != unsound)
+        memcpy(state, kept, sizeof state);
+}
+
+int main(int argc, char **argv)
+{
+    uint64_t calls, unsound = 0;
+    int whole = 1;
+
+    if (argc != 3) {
+        fprintf(stderr, "usage: states CALLS SEED\n");
+        return 2;
+    }
+    calls = strtoull(argv[1], NULL, 10);
+    seed = strtoull(argv[2], NULL, 10);
+    while (done < calls) {
+        begin();
+        for (int i = 0; i < CALLS_A_STATE && done < calls; i++)
+            made_call();
+    }
+    for (size_t call = 0; call < CALLS; call++) {
+        printf("%-9s", names[call]);
+        for (size_t refusal = 0; refusal < REFUSALS; refusal++)
+            printf("%8" PRIu64, counts[call][refusal]);
+        printf("\n");
+        whole &= counts[call][0] > 0;
+        unsound += counts[call][UNSOUND];
+    }
+    printf("parts of show that are not empty: %" PRIu64 "\n", parts);
+    return !(whole && unsound > 0 && parts > 0);
+}
