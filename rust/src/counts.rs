@@ -3,6 +3,7 @@
 mod numbers;
 
 use crate::comparing::Tally;
+use crate::entry::{CODE, COUNT, KIND};
 use crate::lines::{Call, Line};
 use crate::memory::{self, PAIR_BYTES, QUERY_BYTES, RECORDS_START, RESULT_BYTES};
 use crate::wire::{self, get32, get64};
@@ -231,13 +232,13 @@ impl Counts {
     fn entry(&mut self, words: &str) {
         let first = words.split(' ').next().unwrap_or_default();
         let first = u64::from_str_radix(first, 16).unwrap_or(0);
-        let (kind, code) = (first >> 27 & 31, first >> 16 & 7);
+        let (kind, code) = (KIND.of(first), CODE.of(first));
         self.add(format!("entry kind {kind:2}"));
         if [10, 15, 16].contains(&kind) {
             self.add(format!("entry code {kind}/{code}"));
         }
         if kind == 16 {
-            let sent = if first & 0xffff == 1 {
+            let sent = if COUNT.of(first) == 1 {
                 "with"
             } else {
                 "without"

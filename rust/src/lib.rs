@@ -1,7 +1,8 @@
 //! An agent written from 01-scope.md and 02-change-requests.md alone: the
 //! guest's end of Domain Services, the memory reconfiguration service and the
 //! journal. Beside it: the host's line format, a generator of random lists of
-//! calls, and the counts of what a list reached. `vio` is the version
+//! calls, and the counts of what a list reached. `reader` is the reader of
+//! saved entries of ticket 3, `saved` makes files for it. `vio` is the version
 //! handshake of ticket 10, with the same.
 
 pub mod agent;
@@ -13,7 +14,9 @@ pub mod entry;
 pub mod generate;
 pub mod lines;
 pub mod memory;
+pub mod reader;
 pub mod removal;
+pub mod saved;
 pub mod state;
 pub mod vio;
 pub mod wire;

@@ -7,7 +7,7 @@ use mathlib.Core.Bool.{Bool, true, false, not}
 use mathlib.Core.List.{List, _∷_}
 use lib.ListN.{length}
 use lib.Dec.{eqb}
-use borrow.Author.Tests.{ltb-true, ltb-false, leb-true, leb-false, eqb-true, eqb-false, not-false}
+use borrow.Author.Tests.{ltb-true, ltb-false, leb-true, leb-false, eqb-true, eqb-false, not-true, not-false}
 use Rattle.model.specs.Choice.{pick}
 use Rattle.model.specs.State.{sound}
 use Rattle.model.specs.Refusals.{Refusal, refusalIn, actionRefusal, drainRefusal}
@@ -19,7 +19,7 @@ use Rattle.model.proofs.Rules.{Given}
 use Rattle.model.proofs.Effects.{Good, closing-good, offering-good, withdrawing-good}
 use Rattle.model.proofs.WorkEffects.{working-good}
 use Rattle.model.proofs.ReceiveEffects.{receiving-good}
-use Rattle.model.specs.Layout.{channelCount, entryWords, heldOf, highestNumber, journalWords, lastOf, mostBudget, mostHeld, outputBytes, serviceCount, stateWords}
+use Rattle.model.specs.Layout.{channelCount, entryWords, heldOf, highestNumber, journalWords, lastOf, mostBudget, mostHeld, outputBytes, serviceCount, stageIdle, stateWords}
 
 -- A row of a table that refuses nothing: the first does not apply, and neither does a later one.
 pub row-passed : (r : Refusal) (rs : List Refusal) → eqb (r .number) 0 ≡ false → refusalIn (r ∷ rs) ≡ 0 → (r .when ≡ false) × (refusalIn rs ≡ 0)
@@ -73,10 +73,10 @@ unfolding inRange allowed effectOf
 action-good s g (receive c m) r p = receiving-good s g c m (ltb-true c channelCount r)
 action-good s g (offer c v) r p =
     let b = both _ _ r in
-    offering-good s g c v (ltb-true c channelCount (b .0)) (ltb-true v serviceCount (b .1)) (eqb-true _ 1 (both _ _ p .0))
+    offering-good s g c v (ltb-true c channelCount (b .0)) (ltb-true v serviceCount (b .1)) (eqb-true _ 1 (both _ _ p .0)) (eqb-true _ stageIdle (both _ _ p .1))
 action-good s g (withdraw c v) r p =
     let b = both _ _ r in
-    withdrawing-good s g c v (ltb-true c channelCount (b .0)) (ltb-true v serviceCount (b .1))
+    withdrawing-good s g c v (ltb-true c channelCount (b .0)) (ltb-true v serviceCount (b .1)) (eqb-false _ stageIdle (not-true _ p))
 action-good s g (close c) r p = closing-good s g c 0 (ltb-true c channelCount r)
 action-good s g (work budget) r p =
     let b = both _ _ r in

@@ -1,6 +1,6 @@
 -- Data reaches a service exactly when the view shows its handle registered on the channel, and reaches that service.
 -- Assumes nothing.
-use Prim.Native.Nat.{ℕ, zero, suc, _/_, _≤_, _<_}
+use Prim.Native.Nat.{ℕ, _/_, _≤_, _<_}
 use native.Mathlib.Omega.{arith}
 use mathlib.Core.Path.{_≡_, refl, sym, ap, _∙_}
 use mathlib.Core.Bool.{Bool, true, false}
@@ -15,19 +15,19 @@ use Rattle.model.specs.declared.Event.{Event}
 use Rattle.model.specs.declared.Found.{Found}
 use Rattle.model.specs.declared.Found.the-variants.{At, Nowhere}
 use Rattle.model.specs.declared.Message.the-variants.{Data}
-use Rattle.model.specs.State.{serviceSound}
 use Rattle.model.specs.Journal.{servedBy, answeredEvent, codeNone, dataRefusedEvent, deliveredEvent}
 use Rattle.model.specs.Messages.{Effect, DS-INV-HDL, closing, decoded, decodedByType, dsData, dsMessage, effect, mostPayload, nack, payloadFits, payloadLength, registeredAs, registeredFor, route, wellFormed, wholeMessage}
 use Rattle.model.specs.Memory.{memoryReply, Progress, answeredMemory, answering, answeringConfigure, answeringError, beginning, blocked, cancelling, configureReply, configuredBy, querying, reporting}
 use Rattle.model.specs.Calls.{act, accepted, allowed, dataFor, effectOf, heard, hears, inRange, outcome, pagesOf, receive, receiving, refusalOf, refused, routed}
-use Rattle.model.specs.Reading.{idle, none, servicesOf, stageOf, viewOf}
-use Rattle.model.specs.Demand3.{sameBytes, Delivers, WellFormedData, reached, replyOf, showsHandle, showsRegistered, showsService}
-use Rattle.model.proofs.Choice.{clash, on-pick, on-first, first-same, first-nowhere, both, tabulate-at}
+use Rattle.model.specs.Reading.{none, viewOf}
+use Rattle.model.specs.Demand3.{sameBytes, Delivers, WellFormedData, reached, replyOf, showsRegistered, showsService}
+use Rattle.model.proofs.Choice.{clash, on-pick, on-first, first-nowhere, both}
+use Rattle.model.proofs.Shown.{shows-service, shows-first}
 use Rattle.model.proofs.Rules.{Sound, live-rules}
 use Rattle.model.proofs.MemoryEffects.{on-memory, numbered}
 use Rattle.model.proofs.Calls.{Taken, taken, passed, on-act}
 use Rattle.model.proofs.Kept.{noted-is}
-use Rattle.model.specs.Layout.{channelCount, dataHeaderBytes, handleAt, lastOf, memoryService, minorAt, placeCount, placeOf, readyAt, serviceCount, stageAt, stageRegistered, stateWords}
+use Rattle.model.specs.Layout.{channelCount, dataHeaderBytes, handleAt, memoryService, placeCount, placeOf, readyAt, serviceCount, stageAt, stageRegistered, stateWords}
 
 -- well-formed data is decoded as data under its handle
 pub data-decoded : (m : List ℕ) (handle : ℕ) → WellFormedData m handle → decoded m ≡ Data handle
@@ -55,21 +55,8 @@ pub reached-of : (s j out : List ℕ) (pages : ℕ) (e : Effect) (t : Taken s j 
 unfolding reached reachedBy
 reached-of s j out pages e t handle = rw (reply-is s j out pages e, noted-is s j out pages e t)
 
--- What is registered among the words is what is shown.
+-- A registered service, and what is found.
 module _ (s : List ℕ) (g : Sound s) where
-  shows-service : (c handle v : ℕ) → c < channelCount → v < serviceCount → showsService (viewOf s) c handle v ≡ registeredAs s c handle v
-  unfolding showsService viewOf servicesOf
-  shows-service c handle v h l =
-      let k : placeOf c v < placeCount = omega arith in
-      rw (tabulate-at (λ k. stageOf (stageAt s k) (handleAt s k) (minorAt s k)) placeCount (placeOf c v) idle k)
-      (go (stageAt s (placeOf c v)) (g .base .services (placeOf c v) k))
-    where
-      go : (x : ℕ) → serviceSound x (handleAt s (placeOf c v)) (minorAt s (placeOf c v)) (readyAt s (placeOf c v / serviceCount)) (lastOf s) ≡ true → showsHandle handle (stageOf x (handleAt s (placeOf c v)) (minorAt s (placeOf c v))) ≡ (eqb x stageRegistered and eqb (handleAt s (placeOf c v)) handle)
-      go zero t = unfold showsHandle stageOf pick _and_ in refl
-      go (suc zero) t = unfold showsHandle stageOf pick _and_ in refl
-      go (suc (suc zero)) t = unfold showsHandle stageOf pick _and_ in refl
-      go (suc (suc (suc x))) t = let u = live-rules _ _ _ _ _ (λ q. omega arith) t in absurd (omega (arith, u .stages))
-
   -- a registered service's words
   live : (c handle v : ℕ) → c < channelCount → v < serviceCount → registeredAs s c handle v ≡ true → (stageAt s (placeOf c v) ≡ stageRegistered) × (handleAt s (placeOf c v) ≡ handle) × (readyAt s c ≡ 1)
   live c handle v h l e =
@@ -265,8 +252,8 @@ delivers s j c handle m out size d =
         let tells : reached handle (accepted s j out (pagesOf s (receive c m)) (effectOf s (receive c m))) ≡ registeredFor s c handle =
         reached-of s j out (pagesOf s (receive c m)) (effectOf s (receive c m)) t handle ∙ received-tells s g c handle h m d in
         let same : firstBelow serviceCount (showsService (viewOf s) c handle) ≡ registeredFor s c handle =
-        first-same serviceCount (registeredAs s c handle) (showsService (viewOf s) c handle) (λ v l. shows-service s g c handle v h l) in
+        shows-first s (g .base) c handle h in
         record {
           exactly = ap isFound (tells ∙ sym same);
-          thatOne = λ v l. ap (isAt v) tells ∙ found-one s g c handle v h l ∙ sym (shows-service s g c handle v h l);
+          thatOne = λ v l. ap (isAt v) tells ∙ found-one s g c handle v h l ∙ sym (shows-service s (g .base) c handle v h l);
         }

@@ -8,7 +8,7 @@ use mathlib.Core.Bool.{Bool, true, false}
 use mathlib.Core.List.{List, []}
 use lib.ListN.{length}
 use lib.Dec.{eqb, ltb}
-use borrow.Author.Tests.{ltb-true, ltb-false, eqb-true, le-leb}
+use borrow.Author.Tests.{ltb-true, ltb-false, eqb-true, eqb-false, le-leb, not-true}
 use Rattle.model.specs.Choice.{pick, _or_}
 use Rattle.model.specs.declared.Event.{Event}
 use Rattle.model.specs.Layout.{placeOf, blockCountWord, lastWord, outstandingWord, channelCount, handleAt, highestMinor, highestNumber, lastOf, outputBytes, placeCount, readyAt, serviceCount, stageAt, stageIdle, stageOffered, stageRegistered, withChannel, withService, firstNumberedWord, heldOf, heldWord, firstHandleWord, firstStageWord, serviceWords, withNumber}
@@ -16,11 +16,14 @@ use Rattle.model.specs.State.{serviceSound, ourHandle}
 use Rattle.model.specs.Journal.{fieldsOf, closedEvent, notedEvent, offerRefusedEvent, offeredEvent, readyEvent, registeredEvent, serviceEndedEvent, versionRefusedEvent}
 use Rattle.model.specs.Messages.{Effect, effect, numbersAnew, acknowledged, closing, initiated, liveAs, liveFor, notAcknowledged, noting, offeredAs, offeredFor, offering, unregistered, withIdle, withRegistered, withdrawing, initAck}
 use Rattle.model.specs.Reading.{View, read, stageOf, seeChannel, seeService, viewOf}
+use Rattle.model.specs.Replay.{needed, isIdle, isOffered, isOfferedAs, isLive}
 use Rattle.model.proofs.Choice.{on-pick, on-first, both}
 use Rattle.model.proofs.View.{Shape, Moves, stays, then, turns, counted-view, service-moves, channel-moves}
 use Rattle.model.proofs.Words.{Agree, service-frame, channel-frame, number-frame, number-length}
 use Rattle.model.proofs.Rules.{Given, Base, Removes, Live, live-rules, live-last, service-idle, base-later, removes-later}
 use Rattle.model.proofs.Sounds.{base-service, base-channel, removes-same, sound-same}
+use Rattle.model.proofs.Needs.{ready-needs, closed-needs, version-needs, offered-needs, registered-needs, refused-needs, ended-needs, noted-needs}
+use Rattle.model.proofs.Shown.{Reaches, shows-open, shows-test, idle-here, offered-here, offered-as-here, live-here}
 use Rattle.model.proofs.Turns.{Turn, leaves, aside, same-blocks, same-removal, turn-same}
 use Rattle.model.proofs.Events.{Fits, ready-fits, closed-fits, version-fits, offered-fits, registered-fits, refused-fits, ended-fits, noted-fits}
 use Rattle.model.proofs.Replies.{short-empty, initAck-short, initNack-short, regReq-short, unreg-short, unregAck-short, unregNack-short}
@@ -29,6 +32,10 @@ use Rattle.model.proofs.Replies.{short-empty, initAck-short, initNack-s
 abbrev pub readBy : List ℕ → Event → View → View
 readBy s e = read (fieldsOf (lastOf s + 1) e) (e .word)
 
+-- what an event needs is shown
+abbrev pub neededBy : List ℕ → Event → Type 0
+neededBy s e = needed (fieldsOf (lastOf s + 1) e) (e .word) (viewOf s) ≡ true
+
 pub record Good (s : List ℕ) (e : Effect) : Type 0 where
   pub entry : Fits (lastOf s + 1) (e .event)
   pub moves : Moves s (e .state) (readBy s (e .event))
@@ -36,6 +43,8 @@ pub record Good (s : List ℕ) (e : Effect) : Type 0 where
   pub base : Base (e .state) (lastOf s + 1)
   pub removal : Removes (e .state) (lastOf s + 1)
   pub turn : Turn s e
+  -- what its entry needs is shown
+  pub need : neededBy s (e .event)
 
 module _ (s : List ℕ) (g : Given s) where
   -- the state itself, for the next number
@@ -52,19 +61,20 @@ module _ (s : List ℕ) (g : Given s) where
   removes-now = removes-later s (lastOf s) (lastOf s + 1) (omega arith) (g .facts .removal)
 
   -- Nothing changed.
-  pub unchanged : (e : Event) (reply : List ℕ) → Fits (lastOf s + 1) e → ((v : View) → readBy s e v ≡ v) → length reply ≤ outputBytes → aside (e .kind) ≡ true → Good s (effect e s reply)
-  unchanged e reply f r short a = record {
+  pub unchanged : (e : Event) (reply : List ℕ) → Fits (lastOf s + 1) e → ((v : View) → readBy s e v ≡ v) → length reply ≤ outputBytes → aside (e .kind) ≡ true → neededBy s e → Good s (effect e s reply)
+  unchanged e reply f r short a n = record {
     entry = f;
     moves = turns (readBy s e) (stays s) (sym (r (viewOf s)));
     fits = short;
     base = base-now;
     removal = removes-now;
     turn = leaves (same-blocks s s (g .facts .base .few) (λ j lo hi. refl)) (same-removal s s (λ j lo hi. refl)) a;
+    need = n;
   }
 
   -- One service changed: it is sound by itself, and where it is live no other live service has its handle.
-  pub service-changed : (e : Event) (reply : List ℕ) (k stage handle minor : ℕ) → k < placeCount → Fits (lastOf s + 1) e → ((v : View) → readBy s e v ≡ seeService k (stageOf stage handle minor) v) → length reply ≤ outputBytes → serviceSound stage handle minor (readyAt s (k / serviceCount)) (lastOf s + 1) ≡ true → ((j : ℕ) → j < placeCount → (j ≡ k → ⊥) → (stageAt s j ≡ stageIdle → ⊥) → (stage ≡ stageIdle → ⊥) → handleAt s j ≡ handle → ⊥) → aside (e .kind) ≡ true → Good s (effect e (withService s k stage handle minor) reply)
-  service-changed e reply k stage handle minor b f r short ok fresh a =
+  pub service-changed : (e : Event) (reply : List ℕ) (k stage handle minor : ℕ) → k < placeCount → Fits (lastOf s + 1) e → ((v : View) → readBy s e v ≡ seeService k (stageOf stage handle minor) v) → length reply ≤ outputBytes → serviceSound stage handle minor (readyAt s (k / serviceCount)) (lastOf s + 1) ≡ true → ((j : ℕ) → j < placeCount → (j ≡ k → ⊥) → (stageAt s j ≡ stageIdle → ⊥) → (stage ≡ stageIdle → ⊥) → handleAt s j ≡ handle → ⊥) → aside (e .kind) ≡ true → neededBy s e → Good s (effect e (withService s k stage handle minor) reply)
+  service-changed e reply k stage handle minor b f r short ok fresh a n =
       let w = service-frame s k stage handle minor in
       let low : Agree s (withService s k stage handle minor) blockCountWord lastWord = λ j lo hi. w j (λ p q. omega arith) in
       let high : Agree s (withService s k stage handle minor) outstandingWord firstNumberedWord = λ j lo hi. w j (λ p q. omega arith) in
@@ -76,11 +86,12 @@ module _ (s : List ℕ) (g : Given s) where
         removal =
             removes-same s (withService s k stage handle minor) (lastOf s + 1) (g .facts .base .few) low high removes-now;
         turn = leaves (same-blocks s (withService s k stage handle minor) (g .facts .base .few) low) (same-removal s (withService s k stage handle minor) high) a;
+        need = n;
       }
 
   -- A channel closed or made ready, its services idle.
-  pub channel-changed : (e : Event) (reply : List ℕ) (c ready : ℕ) → c < channelCount → ready ≤ 1 → Fits (lastOf s + 1) e → ((v : View) → readBy s e v ≡ seeChannel c (eqb ready 1) v) → length reply ≤ outputBytes → aside (e .kind) ≡ true → Good s (effect e (withChannel s c ready) reply)
-  channel-changed e reply c ready b small f r short a =
+  pub channel-changed : (e : Event) (reply : List ℕ) (c ready : ℕ) → c < channelCount → ready ≤ 1 → Fits (lastOf s + 1) e → ((v : View) → readBy s e v ≡ seeChannel c (eqb ready 1) v) → length reply ≤ outputBytes → aside (e .kind) ≡ true → neededBy s e → Good s (effect e (withChannel s c ready) reply)
+  channel-changed e reply c ready b small f r short a n =
       let w = channel-frame s c ready in
       let low : Agree s (withChannel s c ready) blockCountWord lastWord = λ j lo hi. w j (λ q. omega arith) (λ p q. omega arith) in
       let high : Agree s (withChannel s c ready) outstandingWord firstNumberedWord = λ j lo hi. w j (λ q. omega arith) (λ p q. omega arith) in
@@ -92,21 +103,23 @@ module _ (s : List ℕ) (g : Given s) where
         removal =
             removes-same s (withChannel s c ready) (lastOf s + 1) (g .facts .base .few) low high removes-now;
         turn = leaves (same-blocks s (withChannel s c ready) (g .facts .base .few) low) (same-removal s (withChannel s c ready) high) a;
+        need = n;
       }
 
   -- a service becomes idle
-  idled : (e : Event) (reply : List ℕ) (c v : ℕ) → c < channelCount → v < serviceCount → Fits (lastOf s + 1) e → ((x : View) → readBy s e x ≡ seeService (placeOf c v) (stageOf stageIdle 0 0) x) → length reply ≤ outputBytes → aside (e .kind) ≡ true → Good s (effect e (withIdle s c v) reply)
-  idled e reply c v h l f r short a =
+  idled : (e : Event) (reply : List ℕ) (c v : ℕ) → c < channelCount → v < serviceCount → Fits (lastOf s + 1) e → ((x : View) → readBy s e x ≡ seeService (placeOf c v) (stageOf stageIdle 0 0) x) → length reply ≤ outputBytes → aside (e .kind) ≡ true → neededBy s e → Good s (effect e (withIdle s c v) reply)
+  idled e reply c v h l f r short a n =
       service-changed e reply (placeOf c v) stageIdle 0 0 (omega arith) f r short
       (service-idle stageIdle 0 0 _ (lastOf s + 1) refl)
       (λ j b n p q z. q refl)
       a
+      n
 
   -- DS messages and host calls.
   pub closing-good : (c by : ℕ) → c < channelCount → Good s (closing s c by)
   unfolding closing read pick fieldsOf aside _or_
   closing-good c by h =
-      channel-changed (closedEvent c by) [] c 0 h (omega arith) (closed-fits _ c next-number h by) (λ v. refl) short-empty refl
+      channel-changed (closedEvent c by) [] c 0 h (omega arith) (closed-fits _ c next-number h by) (λ v. refl) short-empty refl (closed-needs _ _ c by)
 
   pub initiated-good : (c major : ℕ) → c < channelCount → major ≤ highestMinor → Good s (initiated s c major)
   unfolding initiated
@@ -114,21 +127,23 @@ module _ (s : List ℕ) (g : Given s) where
       on-pick (Good s) _ _ _
       (λ e.
       unfold read pick fieldsOf aside _or_ in
-      (channel-changed (readyEvent c) (initAck 0) c 1 h (omega arith) (ready-fits _ c next-number h) (λ v. refl) (initAck-short 0) refl))
+      (channel-changed (readyEvent c) (initAck 0) c 1 h (omega arith) (ready-fits _ c next-number h) (λ v. refl) (initAck-short 0) refl (ready-needs _ _ c)))
       (λ e.
       channel-changed (versionRefusedEvent c major) _ c 0 h (omega arith) (version-fits _ c next-number h major m)
       (λ v. unfold read pick fieldsOf in refl)
       (initNack-short _)
-      (unfold aside _or_ in refl))
+      (unfold aside _or_ in refl)
+      (version-needs _ _ c major))
 
-  pub noting-good : (c type : ℕ) (reply : List ℕ) → c < channelCount → length reply ≤ outputBytes → Good s (noting s c type reply)
+  pub noting-good : (c type : ℕ) (reply : List ℕ) → c < channelCount → readyAt s c ≡ 1 → length reply ≤ outputBytes → Good s (noting s c type reply)
   unfolding noting read pick fieldsOf aside _or_
-  noting-good c type reply h f = unchanged (notedEvent c type) reply (noted-fits _ c next-number h type) (λ v. refl) f refl
+  noting-good c type reply h ready f =
+      unchanged (notedEvent c type) reply (noted-fits _ c next-number h type) (λ v. refl) f refl (noted-needs _ _ c type (shows-open s c h ready))
 
   -- 5: the handle is that of the offer
-  pub registered-good : (c v minor handle : ℕ) → c < channelCount → v < serviceCount → minor ≤ highestMinor → stageAt s (placeOf c v) ≡ stageOffered → handleAt s (placeOf c v) ≡ handle → Good s (effect (registeredEvent c v minor handle) (withRegistered s c v handle minor) [])
+  pub registered-good : (c v minor handle : ℕ) → c < channelCount → readyAt s c ≡ 1 → v < serviceCount → minor ≤ highestMinor → stageAt s (placeOf c v) ≡ stageOffered → handleAt s (placeOf c v) ≡ handle → Good s (effect (registeredEvent c v minor handle) (withRegistered s c v handle minor) [])
   unfolding read pick fieldsOf stageOf
-  registered-good c v minor handle h l m st q =
+  registered-good c v minor handle h ready l m st q =
       let k : placeOf c v < placeCount = omega arith in
       let u : Live (stageAt s (placeOf c v)) (handleAt s (placeOf c v)) (readyAt s (placeOf c v / serviceCount)) (lastOf s + 1) =
       live-rules _ _ _ _ _ (λ x. omega arith) (base-now .services (placeOf c v) k) in
@@ -141,6 +156,7 @@ module _ (s : List ℕ) (g : Given s) where
       ∙ (unfold _or_ in (le-leb minor highestMinor m)))
       (λ j b n p z e. own j b n p (e ∙ sym q))
       (unfold aside _or_ in refl)
+      (registered-needs _ _ c v minor handle (shows-open s c h ready) (shows-test s c h v l (isOfferedAs handle) (offered-as-here s (placeOf c v) handle st q)))
     where
       own : (j : ℕ) → j < placeCount → (j ≡ placeOf c v → ⊥) → (stageAt s j ≡ stageIdle → ⊥) → handleAt s j ≡ handleAt s (placeOf c v) → ⊥
       own j b n live p = go (ltb j (placeOf c v)) refl
@@ -149,30 +165,33 @@ module _ (s : List ℕ) (g : Given s) where
           go true z = g .facts .base .apart j (placeOf c v) (ltb-true j (placeOf c v) z) (omega arith) live (λ x. omega arith) p
           go false z = g .facts .base .apart (placeOf c v) j (omega (arith, ltb-false j (placeOf c v) z)) b (λ x. omega arith) live (sym p)
 
-  pub not-acknowledged-good : (c handle : ℕ) → c < channelCount → Good s (notAcknowledged s c (offeredFor s c handle))
-  not-acknowledged-good c handle h =
+  pub not-acknowledged-good : (c handle : ℕ) → c < channelCount → readyAt s c ≡ 1 → Good s (notAcknowledged s c (offeredFor s c handle))
+  not-acknowledged-good c handle h ready =
       on-first (λ x. Good s (notAcknowledged s c x)) serviceCount (offeredAs s c handle)
       (λ v r.
       unfold notAcknowledged read pick fieldsOf stageOf aside _or_ in
-      (idled (offerRefusedEvent c v) [] c v h (r .below) (refused-fits _ c next-number h v (r .below)) (λ x. refl) short-empty refl))
-      (λ _. unfold notAcknowledged in (noting-good c _ [] h short-empty))
+      (idled (offerRefusedEvent c v) [] c v h (r .below) (refused-fits _ c next-number h v (r .below)) (λ x. refl) short-empty refl
+      (refused-needs _ _ c v (shows-open s c h ready)
+      (shows-test s c h v (r .below) isOffered (offered-here s (placeOf c v) (eqb-true _ stageOffered (both _ _ (r .passes) .0)))))))
+      (λ _. unfold notAcknowledged in (noting-good c _ [] h ready short-empty))
 
   -- 7, of UNREG and of withdraw
-  ended-good : (c v : ℕ) (reply : List ℕ) → c < channelCount → v < serviceCount → length reply ≤ outputBytes → Good s (effect (serviceEndedEvent c v) (withIdle s c v) reply)
+  ended-good : (c v : ℕ) (reply : List ℕ) → c < channelCount → readyAt s c ≡ 1 → v < serviceCount → (stageAt s (placeOf c v) ≡ stageIdle → ⊥) → length reply ≤ outputBytes → Good s (effect (serviceEndedEvent c v) (withIdle s c v) reply)
   unfolding read pick fieldsOf stageOf aside _or_
-  ended-good c v reply h l f =
+  ended-good c v reply h ready l live f =
       idled (serviceEndedEvent c v) reply c v h l (ended-fits _ c next-number h v l) (λ x. refl) f refl
+      (ended-needs _ _ c v (shows-open s c h ready) (shows-test s c h v l isLive (live-here s (placeOf c v) live)))
 
-  pub unregistered-good : (c handle : ℕ) → c < channelCount → Good s (unregistered s c handle (liveFor s c handle))
-  unregistered-good c handle h =
+  pub unregistered-good : (c handle : ℕ) → c < channelCount → readyAt s c ≡ 1 → Good s (unregistered s c handle (liveFor s c handle))
+  unregistered-good c handle h ready =
       on-first (λ x. Good s (unregistered s c handle x)) serviceCount (liveAs s c handle)
-      (λ v r. unfold unregistered in (ended-good c v _ h (r .below) (unregAck-short handle)))
-      (λ _. unfold unregistered in (noting-good c _ _ h (unregNack-short handle)))
+      (λ v r. unfold unregistered in (ended-good c v _ h ready (r .below) (eqb-false _ stageIdle (not-true _ (both _ _ (r .passes) .0))) (unregAck-short handle)))
+      (λ _. unfold unregistered in (noting-good c _ _ h ready (unregNack-short handle)))
 
   -- 4: the handle is above every other
-  pub offering-good : (c v : ℕ) → c < channelCount → v < serviceCount → readyAt s c ≡ 1 → Good s (offering s c v)
+  pub offering-good : (c v : ℕ) → c < channelCount → v < serviceCount → readyAt s c ≡ 1 → stageAt s (placeOf c v) ≡ stageIdle → Good s (offering s c v)
   unfolding offering read pick fieldsOf stageOf
-  offering-good c v h l ready =
+  offering-good c v h l ready st =
       let k : placeOf c v < placeCount = omega arith in
       let four : placeOf c v / serviceCount ≡ c = omega arith in
       service-changed (offeredEvent c v) _ (placeOf c v) stageOffered (ourHandle (lastOf s + 1)) 0 k
@@ -186,10 +205,15 @@ module _ (s : List ℕ) (g : Given s) where
       let u = live-rules _ _ _ _ _ live (g .facts .base .services j b) in
       omega (arith, u .ours .most))
       (unfold aside _or_ in refl)
+      (offered-needs _ _ c v (shows-open s c h ready) (shows-test s c h v l isIdle (idle-here s (placeOf c v) st)))
 
-  pub withdrawing-good : (c v : ℕ) → c < channelCount → v < serviceCount → Good s (withdrawing s c v)
+  pub withdrawing-good : (c v : ℕ) → c < channelCount → v < serviceCount → (stageAt s (placeOf c v) ≡ stageIdle → ⊥) → Good s (withdrawing s c v)
   unfolding withdrawing
-  withdrawing-good c v h l = ended-good c v _ h l (unreg-short _)
+  withdrawing-good c v h l live =
+      let k : placeOf c v < placeCount = omega arith in
+      let four : placeOf c v / serviceCount ≡ c = omega arith in
+      let u = rw four at (live-rules _ _ _ _ _ live (g .facts .base .services (placeOf c v) k)) in
+      ended-good c v _ h (u .isReady) l live (unreg-short _)
 
 -- Only words of request numbers differ.
 pub record OnlyNumbers (s t : List ℕ) : Type 0 where
@@ -242,18 +266,26 @@ module _ (s t : List ℕ) (n : OnlyNumbers s t) (g : Given s) where
         (same-blocks s t (g .facts .base .few) (λ j lo hi. n .below j (omega arith) (omega arith)))
         (same-removal s t (λ j lo hi. n .below j (omega arith) hi))
         (x .turn);
+    need = rw (numbers-moves .view, last-numbers) at (x .need);
+  }
+
+  pub reaches-numbers : (c : ℕ) → Reaches s c → Reaches t c
+  reaches-numbers c r = record {
+    below = r .below;
+    ready = rw (numbers-moves .view) (r .ready);
+    shown = rw (numbers-moves .view) (r .shown);
   }
 
 -- 5, whose request numbers begin anew
-pub acknowledged-good : (s : List ℕ) → Given s → (c handle minor : ℕ) → c < channelCount → minor ≤ highestMinor → Good s (acknowledged s c handle minor (offeredFor s c handle))
-acknowledged-good s g c handle minor h m =
+pub acknowledged-good : (s : List ℕ) → Given s → (c handle minor : ℕ) → c < channelCount → readyAt s c ≡ 1 → minor ≤ highestMinor → Good s (acknowledged s c handle minor (offeredFor s c handle))
+acknowledged-good s g c handle minor h ready m =
     on-first (λ x. Good s (acknowledged s c handle minor x)) serviceCount (offeredAs s c handle)
     (λ v r.
     let o = both _ _ (r .passes) in
     let n = anew-only s c v in
     unfold acknowledged in
     (good-numbers s (numbersAnew s c v) n g _
-    (registered-good (numbersAnew s c v) (given-numbers s (numbersAnew s c v) n g) c v _ handle h (r .below) (omega arith)
+    (registered-good (numbersAnew s c v) (given-numbers s (numbersAnew s c v) n g) c v _ handle h (n .below c (omega arith) (omega arith) ∙ ready) (r .below) (omega arith)
     (n .below (firstStageWord + placeOf c v * serviceWords) (omega arith) (omega (arith, r .below)) ∙ eqb-true _ stageOffered (o .0))
     (n .below (firstHandleWord + placeOf c v * serviceWords) (omega arith) (omega (arith, r .below)) ∙ eqb-true _ handle (o .1)))))
-    (λ _. unfold acknowledged in (noting-good s g c _ [] h short-empty))
+    (λ _. unfold acknowledged in (noting-good s g c _ [] h ready short-empty))

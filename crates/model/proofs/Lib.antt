@@ -9,6 +9,8 @@ pub mod Ring
 pub mod Mask
 pub mod Events
 pub mod Replies
+pub mod Needs
+pub mod Shown
 pub mod Effects
 pub mod MemoryEffects
 pub mod Configured
@@ -24,6 +26,7 @@ pub mod Demand3
 pub mod Repeats
 pub mod AddsUp
 pub mod Ends
+pub mod Replay
 pub mod ListsHold
 pub mod Handlers
 pub mod Kept

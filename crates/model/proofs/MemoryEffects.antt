@@ -1,6 +1,6 @@
 -- The memory requests: a splitter over what each does, and their effects, as Effects.antt shows of the others.
 -- Assumes nothing.
-use Prim.Native.Nat.{ℕ, zero, suc, _+_, _≤_, _<_}
+use Prim.Native.Nat.{ℕ, zero, suc, _+_, _^_, _≤_, _<_}
 use native.Mathlib.Omega.{arith}
 use mathlib.Core.Path.{_≡_, refl, sym, ap, _∙_}
 use mathlib.Core.Bool.{Bool, true, false}
@@ -15,7 +15,7 @@ use Rattle.model.specs.declared.Found.the-variants.{At, Nowhere}
 use Rattle.model.specs.declared.Removal.{Removal}
 use Rattle.model.specs.declared.Request.{Request}
 use Rattle.model.specs.declared.Request.the-variants.{Configure, Unconfigure, Query, Status, Cancel, Malformed}
-use Rattle.model.specs.Layout.{blocksOf, blockAt, lastOf, outstandingOf, isSet, removalOf, withConfigured, withRemoval, withNumber, lastWord, channelCount, mostBlocks, mostRecords, outputBytes, outstandingWord}
+use Rattle.model.specs.Layout.{blocksOf, blockAt, lastOf, outstandingOf, isSet, removalOf, withConfigured, withRemoval, withNumber, lastWord, mostBlocks, mostRecords, outputBytes, outstandingWord, noBlock}
 use Rattle.model.specs.State.{removalRoom, collectedSound, resultsSound}
 use Rattle.model.specs.Journal.{fieldsOf, answeredEvent, configuredEvent, cancelledEvent, begunEvent, codeBlocked, codeError, codeNone}
 use Rattle.model.specs.Messages.{Effect, effect}
@@ -23,15 +23,18 @@ use Rattle.model.specs.Memory.{argumentOf, addrIn, sizeIn, hasRecords, r
 use Rattle.model.specs.Reading.{View, removing, read, seeBlocks, configuredIn, markedRemoval, blocksShown, removalShown, viewOf, seeRemoval}
 use Rattle.model.proofs.Choice.{on-pick, both, tabulate-at, tabulate-length}
 use Rattle.model.proofs.Words.{Arrays, loaded-arrays, configured-frame}
-use Rattle.model.proofs.View.{Moves, shape-moves, stays, then, turns, configured-moves, removal-moves, noBlock}
+use Rattle.model.proofs.View.{Moves, shape-moves, stays, then, turns, configured-moves, removal-moves}
 use Rattle.model.proofs.Rules.{Base, Ours, RemovalFacts}
 use Rattle.model.proofs.Events.{Fits, codeEnd, answered-fits, configured-fits, begun-fits, cancelled-fits}
 use Rattle.model.proofs.Sounds.{named-less, base-configured, base-removal, removes-made, removes-none}
 use Rattle.model.proofs.Turns.{SameSizes, SameBlocks, NewRemoval, Turn, configures, begins, marks, aside, same-sizes, sizes-then, flag-sizes, removal-blocks, new-removal}
-use Rattle.model.proofs.Mask.{configured-none, configured-more, bit-none}
+use Rattle.model.proofs.Mask.{configured-none, configured-more, bit-none, bit-within, none-within}
 use Rattle.model.proofs.Replies.{short-empty, memory-length, results-short, queries-short, result-length, query-length, status-length}
 use Rattle.model.proofs.Rules.{Given}
-use Rattle.model.proofs.Effects.{Good, readBy, shape, next-number, base-now, removes-now, unchanged, number-only, given-numbers, good-numbers}
+use Rattle.model.specs.Replay.{isRemoving}
+use Rattle.model.proofs.Needs.{answered-needs, configured-needs, begun-needs, cancelled-needs}
+use Rattle.model.proofs.Shown.{Reaches}
+use Rattle.model.proofs.Effects.{Good, readBy, neededBy, shape, next-number, base-now, removes-now, unchanged, number-only, given-numbers, good-numbers, reaches-numbers}
 use Rattle.model.specs.Blocks.{namedBlock}
 use Rattle.model.specs.Calls.{shown}
 
@@ -39,6 +42,11 @@ use Rattle.model.specs.Calls.{shown}
 pub shown-length : (s : List ℕ) → length (blocksShown s) ≡ blocksOf s
 unfolding blocksShown
 shown-length s = tabulate-length (λ i. blockAt s i) (blocksOf s)
+
+-- as many as the state has
+pub blocks-count : (s : List ℕ) → length (viewOf s .blocks) ≡ blocksOf s
+unfolding viewOf
+blocks-count s = shown-length s
 
 pub shown-at : (s : List ℕ) (i : ℕ) → i < blocksOf s → getD (blocksShown s) i noBlock ≡ blockAt s i
 unfolding blocksShown
@@ -71,6 +79,7 @@ pub record Configures (s : List ℕ) (p : Progress) : Type 0 where
   pub base : Base (p .state) (lastOf s + 1)
   pub removal : outstandingOf (p .state) ≡ outstandingOf s
   pub sizes : SameSizes s (p .state)
+  pub within : p .mask < 2 ^ blocksOf s
 
 module _ (s : List ℕ) (g : Given s) where
   configured-first : Configures s (record { state = s; mask = 0; failed = false; results = [] })
@@ -80,6 +89,7 @@ module _ (s : List ℕ) (g : Given s) where
     base = base-now s g;
     removal = refl;
     sizes = same-sizes s;
+    within = none-within (blocksOf s);
   }
 
   configured-another : (p : Progress) (k : ℕ) → Configures s p → k < blocksOf (p .state) → blockAt (p .state) k .configured ≡ 0 → Configures s (oneConfigured p k)
@@ -101,6 +111,7 @@ module _ (s : List ℕ) (g : Given s) where
         base = base-configured (p .state) k 1 (w .size) (w .few) h (lastOf s + 1) (omega arith) (λ q. refl) (r .base);
         removal = configured-frame (p .state) k 1 outstandingWord (λ a b. omega arith) ∙ r .removal;
         sizes = sizes-then s (p .state) (withConfigured (p .state) k 1) (r .sizes) (flag-sizes (p .state) k 1 (w .size) (w .few) h);
+        within = bit-within (p .mask) k (blocksOf s) bit (omega (arith, r .moves .blocks)) (r .within);
       }
 
   configured-one : (p : Progress) (addr size : ℕ) → Configures s p → Configures s (configureOne p addr size)
@@ -109,10 +120,10 @@ module _ (s : List ℕ) (g : Given s) where
       on-pick (Configures s) _ _ _ (λ e. failed) (λ e. go (namedBlock (p .state) addr size) refl)
     where
       failed : Configures s (oneFailed p)
-      failed = unfold oneFailed in record { moves = r .moves; base = r .base; removal = r .removal; sizes = r .sizes }
+      failed = unfold oneFailed in record { moves = r .moves; base = r .base; removal = r .removal; sizes = r .sizes; within = r .within }
 
       unchanged-one : Configures s (oneUnchanged p)
-      unchanged-one = unfold oneUnchanged in record { moves = r .moves; base = r .base; removal = r .removal; sizes = r .sizes }
+      unchanged-one = unfold oneUnchanged in record { moves = r .moves; base = r .base; removal = r .removal; sizes = r .sizes; within = r .within }
 
       go : (x : Found) → namedBlock (p .state) addr size ≡ x → Configures s (configureAt p x)
       go (At i) e =
@@ -128,53 +139,56 @@ module _ (s : List ℕ) (g : Given s) where
   configured-all b (suc n) = configured-one (configuredBy s b n) (addrIn b n) (sizeIn b n) (configured-all b n)
 
   -- Blocks configured while none is outstanding.
-  blocks-changed : (e : Event) (reply : List ℕ) (p : Progress) → Fits (lastOf s + 1) e → readBy s e (viewOf s) ≡ seeBlocks (configuredIn (p .mask) (viewOf s .blocks)) (viewOf s) → length reply ≤ outputBytes → outstandingOf s ≡ 0 → Configures s p → aside (e .kind) ≡ true → Good s (effect e (p .state) reply)
-  blocks-changed e reply p f q short o r a = record {
+  blocks-changed : (e : Event) (reply : List ℕ) (p : Progress) → Fits (lastOf s + 1) e → readBy s e (viewOf s) ≡ seeBlocks (configuredIn (p .mask) (viewOf s .blocks)) (viewOf s) → length reply ≤ outputBytes → outstandingOf s ≡ 0 → Configures s p → aside (e .kind) ≡ true → neededBy s e → Good s (effect e (p .state) reply)
+  blocks-changed e reply p f q short o r a n = record {
     entry = f;
     moves = turns (readBy s e) (r .moves) (sym q);
     fits = short;
     base = r .base;
     removal = removes-none (p .state) (lastOf s + 1) (r .removal ∙ o);
     turn = configures (r .sizes) o (r .removal ∙ o) a;
+    need = n;
   }
 
   -- 10 and 11, of a CONFIGURE
-  configure-good : (c handle request : ℕ) (b : List ℕ) (n : ℕ) (p : Progress) → c < channelCount → n ≤ mostRecords → outstandingOf s ≡ 0 → Configures s p → Good s (answeringConfigure p c handle request b n)
+  configure-good : (c handle request : ℕ) (b : List ℕ) (n : ℕ) (p : Progress) → Reaches s c → n ≤ mostRecords → outstandingOf s ≡ 0 → Configures s p → Good s (answeringConfigure p c handle request b n)
   unfolding answeringConfigure answering fieldsOf read pick seeBlocks aside _or_
   configure-good c handle request b n p h few o r =
       on-pick (Good s) _ _ _
       (λ e.
       let z = eqb-true (p .mask) 0 e in
-      blocks-changed (answeredEvent c codeNone request) _ p (answered-fits _ c (next-number s g) h codeNone request (omega arith))
+      blocks-changed (answeredEvent c codeNone request) _ p (answered-fits _ c (next-number s g) (h .below) codeNone request (omega arith))
       (rw (z, configured-none (viewOf s .blocks)))
-      short o r refl)
-      (λ e. blocks-changed (configuredEvent c (p .mask)) _ p (configured-fits _ c (next-number s g) h (p .mask)) refl short o r refl)
+      short o r refl (answered-needs _ _ c codeNone request (h .ready) (h .shown)))
+      (λ e. blocks-changed (configuredEvent c (p .mask)) _ p (configured-fits _ c (next-number s g) (h .below) (p .mask)) refl short o r refl
+      (configured-needs _ _ c (p .mask) (h .ready) (h .shown) (rw (blocks-count s) (r .within))))
     where
       short : length (configureReply p handle request b n) ≤ outputBytes
       short = unfold configureReply in results-short handle _ request n few _ (λ i. result-length (p .state) (addrIn b i) (sizeIn b i) _)
 
   -- The removal changed, and nothing else.
-  pub removal-changed : (e : Event) (reply : List ℕ) (m : Removal) → Arrays m → Fits (lastOf s + 1) e → readBy s e (viewOf s) ≡ seeRemoval (removing (m .cancelled) (m .position) (m .collected)) (viewOf s) → length reply ≤ outputBytes → RemovalFacts s (lastOf s + 1) m → (SameBlocks s (withRemoval s m) → NewRemoval (withRemoval s m) m → Turn s (effect e (withRemoval s m) reply)) → Good s (effect e (withRemoval s m) reply)
-  removal-changed e reply m a f q short facts turn = record {
+  pub removal-changed : (e : Event) (reply : List ℕ) (m : Removal) → Arrays m → Fits (lastOf s + 1) e → readBy s e (viewOf s) ≡ seeRemoval (removing (m .cancelled) (m .position) (m .collected)) (viewOf s) → length reply ≤ outputBytes → RemovalFacts s (lastOf s + 1) m → (SameBlocks s (withRemoval s m) → NewRemoval (withRemoval s m) m → Turn s (effect e (withRemoval s m) reply)) → neededBy s e → Good s (effect e (withRemoval s m) reply)
+  removal-changed e reply m a f q short facts turn n = record {
     entry = f;
     moves = turns (readBy s e) (removal-moves s (shape s g) m a) (sym q);
     fits = short;
     base = base-removal s (lastOf s + 1) m (base-now s g);
     removal = removes-made s (lastOf s + 1) m (g .size) (g .facts .base .few) a facts;
     turn = turn (removal-blocks s m (g .facts .base .few)) (new-removal s m (g .size) a);
+    need = n;
   }
 
   -- 12
-  begun-good : (c handle request : ℕ) (b : List ℕ) (n : ℕ) → c < channelCount → Ours 0 (lastOf s + 1) handle → 1 ≤ n → n ≤ mostRecords → outstandingOf s ≡ 0 → Good s (beginning s c handle request b n)
+  begun-good : (c handle request : ℕ) (b : List ℕ) (n : ℕ) → Reaches s c → Ours 0 (lastOf s + 1) handle → 1 ≤ n → n ≤ mostRecords → outstandingOf s ≡ 0 → Good s (beginning s c handle request b n)
   unfolding beginning fieldsOf read pick newRemoval every resultsSound
   begun-good c handle request b n h u some few o =
       removal-changed (begunEvent c n request) [] (newRemoval c handle request b n)
       (new-arrays c handle request b n)
-      (begun-fits _ c (next-number s g) h n request few)
+      (begun-fits _ c (next-number s g) (h .below) n request few)
       refl
       short-empty
       (record {
-        channels = h;
+        channels = h .below;
         handles = u;
         some = some;
         few = few;
@@ -183,21 +197,26 @@ module _ (s : List ℕ) (g : Given s) where
         results = refl;
       })
       (λ blocks removal. begins (newRemoval c handle request b n) blocks removal refl refl o refl)
+      (begun-needs _ _ c n request (h .ready) (h .shown))
 
   -- what is shown of an outstanding removal
   pub removing-now : isSet (outstandingOf s) ≡ true → viewOf s .removal ≡ removing (removalOf s .cancelled) (removalOf s .position) (removalOf s .collected)
   unfolding viewOf removalShown pick
   removing-now o = rw o
 
+  pub removing-shown : isSet (outstandingOf s) ≡ true → isRemoving (viewOf s .removal) ≡ true
+  unfolding isRemoving
+  removing-shown o = rw (removing-now o)
+
   -- 13
-  cancelled-good : (c request : ℕ) (reply : List ℕ) → c < channelCount → length reply ≤ outputBytes → isSet (outstandingOf s) ≡ true → Good s (effect (cancelledEvent c request) (withRemoval s (marked (removalOf s))) reply)
+  cancelled-good : (c request : ℕ) (reply : List ℕ) → Reaches s c → length reply ≤ outputBytes → isSet (outstandingOf s) ≡ true → Good s (effect (cancelledEvent c request) (withRemoval s (marked (removalOf s))) reply)
   unfolding fieldsOf read pick marked markedRemoval resultsSound
   cancelled-good c request reply h f o =
       let a = loaded-arrays s in
       let m = removes-now s g o .facts in
       removal-changed (cancelledEvent c request) reply (marked (removalOf s))
       (record { addresses = a .addresses; sizes = a .sizes; results = a .results })
-      (cancelled-fits _ c (next-number s g) h request)
+      (cancelled-fits _ c (next-number s g) (h .below) request)
       (rw (removing-now o))
       f
       (record {
@@ -210,20 +229,21 @@ module _ (s : List ℕ) (g : Given s) where
         results = m .results;
       })
       (λ blocks removal. marks blocks removal (removes-now s g o .one) refl)
+      (cancelled-needs _ _ c request (h .ready) (h .shown) (removing-shown o))
 
   -- The requests.
-  answering-good : (c code request : ℕ) (reply : List ℕ) → c < channelCount → code < codeEnd → length reply ≤ outputBytes → Good s (answering s c code request reply)
+  answering-good : (c code request : ℕ) (reply : List ℕ) → Reaches s c → code < codeEnd → length reply ≤ outputBytes → Good s (answering s c code request reply)
   unfolding answering fieldsOf read pick aside _or_
   answering-good c code request reply h k f =
-      unchanged s g (answeredEvent c code request) reply (answered-fits _ c (next-number s g) h code request k) (λ v. refl) f refl
+      unchanged s g (answeredEvent c code request) reply (answered-fits _ c (next-number s g) (h .below) code request k) (λ v. refl) f refl (answered-needs _ _ c code request (h .ready) (h .shown))
 
-  blocked-good : (c handle request : ℕ) (b : List ℕ) (n : ℕ) → c < channelCount → n ≤ mostRecords → Good s (blocked s c handle request b n)
+  blocked-good : (c handle request : ℕ) (b : List ℕ) (n : ℕ) → Reaches s c → n ≤ mostRecords → Good s (blocked s c handle request b n)
   unfolding blocked
   blocked-good c handle request b n h few =
       answering-good c codeBlocked request _ h (omega arith)
       (results-short handle _ request n few _ (λ i. result-length s (addrIn b i) (sizeIn b i) _))
 
-  cancelling-good : (c handle request : ℕ) → c < channelCount → Good s (cancelling s c handle request)
+  cancelling-good : (c handle request : ℕ) → Reaches s c → Good s (cancelling s c handle request)
   unfolding cancelling
   cancelling-good c handle request h =
       on-pick (Good s) _ _ _
@@ -233,7 +253,7 @@ module _ (s : List ℕ) (g : Given s) where
       empty-short : (n : ℕ) → length (memoryReply handle DR-MEM-OK n request []) ≤ outputBytes
       empty-short n = rw (memory-length) (omega arith)
 
-  reporting-good : (c handle request : ℕ) → c < channelCount → Good s (reporting s c handle request)
+  reporting-good : (c handle request : ℕ) → Reaches s c → Good s (reporting s c handle request)
   unfolding reporting
   reporting-good c handle request h =
       answering-good c codeNone request _ h (omega arith)
@@ -241,11 +261,11 @@ module _ (s : List ℕ) (g : Given s) where
       (λ e. rw (memory-length, status-length) (omega arith))
       (λ e. rw (memory-length) (omega arith)))
 
-  error-good : (c handle request : ℕ) → c < channelCount → Good s (answeringError s c handle request)
+  error-good : (c handle request : ℕ) → Reaches s c → Good s (answeringError s c handle request)
   unfolding answeringError
   error-good c handle request h = answering-good c codeError request _ h (omega arith) (rw (memory-length) (omega arith))
 
-  querying-good : (c handle request : ℕ) (b : List ℕ) (n : ℕ) → c < channelCount → n ≤ mostRecords → Good s (querying s c handle request b n)
+  querying-good : (c handle request : ℕ) (b : List ℕ) (n : ℕ) → Reaches s c → n ≤ mostRecords → Good s (querying s c handle request b n)
   unfolding querying
   querying-good c handle request b n h few =
       answering-good c codeNone request _ h (omega arith)
@@ -310,21 +330,21 @@ unfolding answeredMemory
 on-memory P s c handle b o e =
     on-pick P _ _ _ (λ _. on-requested P (numbered s c b) c handle (requestNumber b) b (requestOf b) (right-form b) o) (λ _. e)
 
-pub memory-good : (s : List ℕ) (g : Given s) (c handle : ℕ) (b : List ℕ) → c < channelCount → Ours 0 (lastOf s + 1) handle → Good s (answeredMemory s c handle b)
+pub memory-good : (s : List ℕ) (g : Given s) (c handle : ℕ) (b : List ℕ) → Reaches s c → Ours 0 (lastOf s + 1) handle → Good s (answeredMemory s c handle b)
 memory-good s g c handle b h u =
     let n = number-only s c 1 (requestNumber b) in
-    let t : List ℕ = numbered s c b in
+    let h′ = reaches-numbers s (numbered s c b) n g c h in
     let g′ = given-numbers s (numbered s c b) n g in
     let back = good-numbers s (numbered s c b) n g in
     let u′ : Ours 0 (lastOf (numbered s c b) + 1) handle = rw (n .below lastWord (omega arith) (omega arith)) u in
     on-memory (Good s) s c handle b
     (record {
-      onBlocked = λ request k f. back _ (blocked-good (numbered s c b) g′ c handle request b k h (f .1));
-      onConfigure = λ request k f o. back _ (configure-good (numbered s c b) g′ c handle request b k (configuredBy (numbered s c b) b k) h (f .1) o (configured-all (numbered s c b) g′ b k));
-      onUnconfigure = λ request k f o. back _ (begun-good (numbered s c b) g′ c handle request b k h u′ (f .0) (f .1) o);
-      onQuery = λ request k f. back _ (querying-good (numbered s c b) g′ c handle request b k h (f .1));
-      onStatus = λ request. back _ (reporting-good (numbered s c b) g′ c handle request h);
-      onCancel = λ request. back _ (cancelling-good (numbered s c b) g′ c handle request h);
-      onError = λ request. back _ (error-good (numbered s c b) g′ c handle request h);
+      onBlocked = λ request k f. back _ (blocked-good (numbered s c b) g′ c handle request b k h′ (f .1));
+      onConfigure = λ request k f o. back _ (configure-good (numbered s c b) g′ c handle request b k (configuredBy (numbered s c b) b k) h′ (f .1) o (configured-all (numbered s c b) g′ b k));
+      onUnconfigure = λ request k f o. back _ (begun-good (numbered s c b) g′ c handle request b k h′ u′ (f .0) (f .1) o);
+      onQuery = λ request k f. back _ (querying-good (numbered s c b) g′ c handle request b k h′ (f .1));
+      onStatus = λ request. back _ (reporting-good (numbered s c b) g′ c handle request h′);
+      onCancel = λ request. back _ (cancelling-good (numbered s c b) g′ c handle request h′);
+      onError = λ request. back _ (error-good (numbered s c b) g′ c handle request h′);
     })
     (error-good s g c handle (requestNumber b) h)

@@ -2,19 +2,22 @@
 -- Assumes nothing.
 use Prim.Native.Nat.{ℕ, _+_, _≤_, _<_}
 use native.Mathlib.Omega.{arith}
-use mathlib.Core.Path.{_≡_, refl}
+use mathlib.Core.Path.{_≡_, refl, sym}
 use mathlib.Core.List.{List, []}
+use mathlib.Core.Bool.{Bool, true, false}
+use lib.Dec.{eqb}
 use borrow.Author.Tests.{eqb-true}
 use Rattle.wire.proofs.Laws.{number-bound}
 use Rattle.model.specs.declared.Message.{Message}
 use Rattle.model.specs.declared.Message.the-variants.{InitReq, RegReq, RegAck, RegNack, Unreg, UnregAck, UnregNack, Data, Nack, Bad}
-use Rattle.model.specs.Layout.{placeOf, channelCount, highestMinor, lastOf, placeCount, serviceCount, stageRegistered, stageAt}
+use Rattle.model.specs.Layout.{memoryService, placeOf, readyAt, channelCount, highestMinor, lastOf, placeCount, serviceCount, stageRegistered, stageAt}
 use Rattle.model.specs.Messages.{decoded, decodedByType, registeredAs, registeredFor, route, DS-INV-HDL, effect, nack}
-use Rattle.model.specs.Calls.{dataFor, heard, receiving, routed}
+use Rattle.model.specs.Calls.{dataFor, heard, hears, receiving, routed}
 use Rattle.model.specs.Choice.{pick, _or_}
+use Rattle.model.specs.declared.Found.the-variants.{Nowhere}
 use Rattle.model.specs.declared.Route.{Route}
 use Rattle.model.specs.declared.Route.the-variants.{Memory, Host}
-use Rattle.model.proofs.Choice.{on-pick, on-first, both}
+use Rattle.model.proofs.Choice.{on-pick, on-first, first-nowhere, both}
 use Rattle.model.proofs.Rules.{Ours, live-rules}
 use Rattle.model.proofs.Events.{delivered-fits, data-refused-fits}
 use Rattle.model.proofs.Replies.{short-empty, regNack-short, nack-short}
@@ -23,7 +26,10 @@ use Rattle.model.proofs.Effects.{Good, next-number, base-now, unchanged
 use Rattle.model.proofs.Turns.{aside}
 use Rattle.model.proofs.MemoryEffects.{memory-good}
 use Rattle.model.specs.Journal.{deliveredEvent, fieldsOf, dataRefusedEvent}
-use Rattle.model.specs.Reading.{read}
+use Rattle.model.specs.Reading.{read, viewOf}
+use Rattle.model.specs.Replay.{showsReady, showsStage, isRegistered}
+use Rattle.model.proofs.Shown.{shows-none, shows-open, shows-test, registered-here}
+use Rattle.model.proofs.Needs.{delivered-needs, data-refused-needs}
 
 -- versions are numbers of 16 bits
 abbrev Versions : Message → Type 0
@@ -53,49 +59,62 @@ versions m =
     (λ _. on-pick Versions _ _ _ (λ _. tt) (λ _. tt))))))))))
     (λ _. tt)
 
+-- the memory service is answered inside, and no other
+memory-route : (v : ℕ) → route v ≡ Memory → v ≡ memoryService
+unfolding route pick
+memory-route v q = go (eqb v memoryService) refl q
+  where
+    go : (b : Bool) → eqb v memoryService ≡ b → pick b Memory Host ≡ Memory → v ≡ memoryService
+    go true e z = eqb-true v memoryService e
+    go false e z = absurd (let y : _≡_ {A = ℕ} 0 1 = cc in omega arith)
+
 module _ (s : List ℕ) (g : Given s) where
-  delivered-good : (c v : ℕ) → c < channelCount → v < serviceCount → Good s (effect (deliveredEvent c v) s [])
+  delivered-good : (c v : ℕ) → c < channelCount → v < serviceCount → showsReady (viewOf s) c ≡ true → isRegistered (showsStage (viewOf s) c v) ≡ true → Good s (effect (deliveredEvent c v) s [])
   unfolding read pick fieldsOf aside _or_
-  delivered-good c v h l =
-      unchanged s g (deliveredEvent c v) [] (delivered-fits _ c (next-number s g) h v l) (λ x. refl) short-empty refl
+  delivered-good c v h l r n =
+      unchanged s g (deliveredEvent c v) [] (delivered-fits _ c (next-number s g) h v l) (λ x. refl) short-empty refl (delivered-needs _ _ c v r n)
 
-  data-refused-good : (c handle : ℕ) → c < channelCount → Good s (effect (dataRefusedEvent c handle) s (nack handle DS-INV-HDL))
+  data-refused-good : (c handle : ℕ) → c < channelCount → readyAt s c ≡ 1 → registeredFor s c handle ≡ Nowhere → Good s (effect (dataRefusedEvent c handle) s (nack handle DS-INV-HDL))
   unfolding read pick fieldsOf aside _or_
-  data-refused-good c handle h =
+  data-refused-good c handle h ready e =
       unchanged s g (dataRefusedEvent c handle) _ (data-refused-fits _ c (next-number s g) h handle) (λ v. refl) (nack-short handle _) refl
+      (data-refused-needs _ _ c handle (shows-open s c h ready) (shows-none s (g .facts .base) c handle h e))
 
-  routed-good : (c handle : ℕ) (payload : List ℕ) (v : ℕ) (x : Route) → c < channelCount → v < serviceCount → Ours 0 (lastOf s + 1) handle → Good s (routed s c handle payload v x)
+  routed-good : (c handle : ℕ) (payload : List ℕ) (v : ℕ) (x : Route) → route v ≡ x → c < channelCount → v < serviceCount → showsReady (viewOf s) c ≡ true → isRegistered (showsStage (viewOf s) c v) ≡ true → Ours 0 (lastOf s + 1) handle → Good s (routed s c handle payload v x)
   unfolding routed
-  routed-good c handle payload v Memory h l o = memory-good s g c handle payload h o
-  routed-good c handle payload v Host h l o = delivered-good c v h l
+  routed-good c handle payload v Memory q h l r n o =
+      memory-good s g c handle payload (record { below = h; ready = r; shown = rw (sym (memory-route v q)) n }) o
+  routed-good c handle payload v Host q h l r n o = delivered-good c v h l r n
 
-  data-good : (c handle : ℕ) (payload : List ℕ) → c < channelCount → Good s (dataFor s c handle payload (registeredFor s c handle))
+  data-good : (c handle : ℕ) (payload : List ℕ) → c < channelCount → readyAt s c ≡ 1 → Good s (dataFor s c handle payload (registeredFor s c handle))
   unfolding dataFor
-  data-good c handle payload h =
+  data-good c handle payload h ready =
       on-first (λ x. Good s (dataFor s c handle payload x)) serviceCount (registeredAs s c handle)
       (λ v r.
       let p = both _ _ (r .passes) in
       let k : placeOf c v < placeCount = omega (arith, r .below) in
       let two : stageAt s (placeOf c v) ≡ stageRegistered = eqb-true _ stageRegistered (p .0) in
       let u = live-rules _ _ _ _ _ (λ q. omega (arith, two)) (base-now s g .services (placeOf c v) k) .ours in
-      routed-good c handle payload v (route v) h (r .below)
+      routed-good c handle payload v (route v) refl h (r .below)
+      (shows-open s c h ready)
+      (shows-test s c h v (r .below) isRegistered (registered-here s (placeOf c v) two))
       (record { least = omega arith; most = omega (arith, u .most, eqb-true _ handle (p .1)) }))
-      (λ _. data-refused-good c handle h)
+      (λ none. data-refused-good c handle h ready (first-nowhere serviceCount (registeredAs s c handle) none))
 
-  heard-good : (c : ℕ) (m : List ℕ) (x : Message) → c < channelCount → Versions x → Good s (heard s c m x)
-  unfolding heard
-  heard-good c m (InitReq major) h v = initiated-good s g c major h v
-  heard-good c m (RegReq handle) h v = noting-good s g c _ _ h (regNack-short handle _ _)
-  heard-good c m (RegAck handle minor) h v = acknowledged-good s g c handle minor h v
-  heard-good c m (RegNack handle) h v = not-acknowledged-good s g c handle h
-  heard-good c m (Unreg handle) h v = unregistered-good s g c handle h
-  heard-good c m UnregAck h v = noting-good s g c _ [] h short-empty
-  heard-good c m UnregNack h v = noting-good s g c _ [] h short-empty
-  heard-good c m (Data handle) h v = data-good c handle _ h
-  heard-good c m Nack h v = noting-good s g c _ [] h short-empty
-  heard-good c m Bad h v = closing-good s g c 1 h
+  heard-good : (c : ℕ) (m : List ℕ) (x : Message) → c < channelCount → hears (eqb (readyAt s c) 1) x ≡ true → Versions x → Good s (heard s c m x)
+  unfolding heard hears
+  heard-good c m (InitReq major) h y v = initiated-good s g c major h v
+  heard-good c m (RegReq handle) h y v = noting-good s g c _ _ h (eqb-true _ 1 y) (regNack-short handle _ _)
+  heard-good c m (RegAck handle minor) h y v = acknowledged-good s g c handle minor h (eqb-true _ 1 y) v
+  heard-good c m (RegNack handle) h y v = not-acknowledged-good s g c handle h (eqb-true _ 1 y)
+  heard-good c m (Unreg handle) h y v = unregistered-good s g c handle h (eqb-true _ 1 y)
+  heard-good c m UnregAck h y v = noting-good s g c _ [] h (eqb-true _ 1 y) short-empty
+  heard-good c m UnregNack h y v = noting-good s g c _ [] h (eqb-true _ 1 y) short-empty
+  heard-good c m (Data handle) h y v = data-good c handle _ h (eqb-true _ 1 y)
+  heard-good c m Nack h y v = noting-good s g c _ [] h (eqb-true _ 1 y) short-empty
+  heard-good c m Bad h y v = closing-good s g c 1 h
 
   pub receiving-good : (c : ℕ) (m : List ℕ) → c < channelCount → Good s (receiving s c m)
   unfolding receiving
   receiving-good c m h =
-      on-pick (Good s) _ _ _ (λ _. heard-good c m (decoded m) h (versions m)) (λ _. closing-good s g c 1 h)
+      on-pick (Good s) _ _ _ (λ y. heard-good c m (decoded m) h y (versions m)) (λ _. closing-good s g c 1 h)

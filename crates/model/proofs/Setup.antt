@@ -9,13 +9,13 @@ use lib.ListN.{length, getD, set, replicate, length-set, getD-replicate}
 use lib.Seq.{getD-set-same, getD-set-other, length-sets}
 use borrow.Author.Tests.{leb-true, eqb-true}
 use Rattle.model.specs.Choice.{pick, every, tabulate, _and_}
-use Rattle.model.specs.Layout.{outstandingOf, blocksOf, blockIn, blockAt, lastOf, heldOf, blockCountWord, blockWords, configuredPlace, firstBlockWord, firstPlace, firstStageWord, heldWord, lastWord, mostBlocks, outstandingWord, pagesPlace, permanentPlace, serviceWords, stateWords}
+use Rattle.model.specs.Layout.{outstandingOf, blocksOf, blockIn, blockAt, lastOf, heldOf, blockCountWord, blockWords, configuredPlace, firstBlockWord, firstPlace, firstStageWord, heldWord, lastWord, mostBlocks, outstandingWord, pagesPlace, permanentPlace, serviceWords, stateWords, noBlock}
 use Rattle.model.specs.Blocks.{blockKeeps, endBefore, blocksKeep, setupState, Lists, acceptedBlocks, acceptedLists, noLists, names, namedIn, namedBlock}
 use Rattle.model.specs.State.{sound}
 use Rattle.model.specs.Reading.{stageOf, channelsOf, servicesOf, blocksShown, removalShown, viewOf, setupView}
 use Rattle.model.proofs.Choice.{both, every-at, tabulate-same, first-same}
 use Rattle.model.proofs.Words.{sets-below, sets-above, sets-at, removal-same}
-use Rattle.model.proofs.View.{channels-same, services-same, noBlock}
+use Rattle.model.proofs.View.{channels-same, services-same}
 use Rattle.model.proofs.Rules.{sound-test, service-idle}
 use Rattle.model.proofs.Sounds.{removes-none}
 use Rattle.model.specs.Messages.{services}

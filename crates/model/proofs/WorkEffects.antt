@@ -8,20 +8,20 @@ use mathlib.Core.List.{List, []}
 use lib.ListN.{length, getD, set, length-set}
 use lib.Seq.{getD-set-same, getD-set-other}
 use lib.Dec.{eqb}
-use borrow.Author.Tests.{ltb-true, lt-ltb, leb-false, eqb-true, eqb-false, eq-eqb, ne-eqb}
+use borrow.Author.Tests.{ltb-true, lt-ltb, le-leb, leb-false, eqb-true, eqb-false, eq-eqb, ne-eqb}
 use Rattle.model.specs.Choice.{pick, _or_}
 use Rattle.model.specs.declared.Found.{Found}
 use Rattle.model.specs.declared.Found.the-variants.{At, Nowhere}
 use Rattle.model.specs.declared.Removal.{Removal}
-use Rattle.model.specs.Layout.{blocksOf, Block, blockAt, lastOf, outstandingOf, isSet, removalOf, withConfigured, withRemoval, withoutRemoval, mostBlocks, mostBudget, mostRecords, outputBytes}
+use Rattle.model.specs.Layout.{blocksOf, Block, blockAt, lastOf, outstandingOf, isSet, removalOf, withConfigured, withRemoval, withoutRemoval, mostBlocks, mostBudget, mostRecords, outputBytes, noBlock}
 use Rattle.model.specs.State.{removalRoom, collectedSound, resultsSound, resultSound, roomAt}
 use Rattle.model.specs.Journal.{fieldsOf, collectedEvent, settledEvent, removalEndEvent}
 use Rattle.model.specs.Messages.{Effect, effect}
 use Rattle.model.specs.Work.{addrNow, sizeNow, blockNow, endCode, lateReply, ending, settled, collecting, pagesMoved, collects, worksOn, stepOf, working, WorkStep, failingCode, moving, worksAt}
 use Rattle.model.specs.Reading.{read, seeBlocks, seeRemoval, flagged, unconfiguredIn, steppedRemoval, addedPages, blocksShown, viewOf}
-use Rattle.model.proofs.Choice.{on-pick, or-false, every-at, every-make}
+use Rattle.model.proofs.Choice.{on-pick, join, or-false, every-at, every-make}
 use Rattle.model.proofs.Words.{Arrays, loaded-arrays, without-outstanding}
-use Rattle.model.proofs.View.{shape-moves, then, turns, configured-moves, removal-moves, without-moves, noBlock}
+use Rattle.model.proofs.View.{shape-moves, then, turns, configured-moves, removal-moves, without-moves}
 use Rattle.model.proofs.Rules.{RemovalFacts, block-rules}
 use Rattle.model.proofs.Turns.{Turn, steps, same-blocks, same-removal}
 use Rattle.model.proofs.Sounds.{named-less, base-configured, base-removal, base-without, removes-made, removes-none}
@@ -30,7 +30,9 @@ use Rattle.model.proofs.Replies.{short-empty, results-short, result-len
 use Rattle.model.proofs.Events.{codeEnd, collected-fits, settled-fits, end-fits}
 use Rattle.model.proofs.Rules.{Given}
 use Rattle.model.proofs.Effects.{Good, shape, next-number, base-now, removes-now}
-use Rattle.model.proofs.MemoryEffects.{shown-at, collected-none, removing-now, removal-changed}
+use Rattle.model.proofs.MemoryEffects.{shown-length, shown-at, collected-none, removing-now, removing-shown, removal-changed}
+use Rattle.model.specs.Replay.{settles}
+use Rattle.model.proofs.Needs.{collected-needs, settled-needs, end-needs}
 use Rattle.model.specs.Memory.{DR-MEM-RES-NOWORK, DR-MEM-RES-OK}
 
 -- the results of the settled records, and one more
@@ -71,6 +73,10 @@ collected-less n room h = rw (ne-eqb room 0 (λ q. omega arith), lt-ltb n room h
 less-collected : (n room : ℕ) → collectedSound n room ≡ true → 1 ≤ room → n < room
 unfolding collectedSound pick
 less-collected n room e h = ltb-true n room (rw (ne-eqb room 0 (λ q. omega arith)) at e)
+
+no-room : (n room : ℕ) → collectedSound n room ≡ true → room ≡ 0 → n ≡ 0
+unfolding collectedSound pick
+no-room n room e z = eqb-true n 0 (rw z at e)
 
 -- A step that works on block i: the removal goes on, and the record at the position names that block, which has no permanent page.
 pub record Working (s : List ℕ) (m : Removal) (i : ℕ) : Type 0 where
@@ -152,11 +158,21 @@ module _ (s : List ℕ) (g : Given s) (o : isSet (outstandingOf s) ≡ true) whe
         results = f .results;
       })
       (λ blocks removal. turn)
+      (collected-needs _ _ _ n (removing-shown s g o))
+
+  -- the record at the position, with a block of the list and no more pages than it has
+  settles-here : (k n : ℕ) → k < blocksOf s → removalOf s .collected + n ≤ blockAt s k .pages → settles (removalOf s .position) n k (viewOf s .blocks) (viewOf s .removal) ≡ true
+  unfolding settles viewOf
+  settles-here k n kb l =
+      rw (removing-now s g o)
+      (join _ _ (eq-eqb (removalOf s .position) _ refl)
+      (join _ _ (lt-ltb k (length (blocksShown s)) (rw (shown-length s) kb))
+      (le-leb (removalOf s .collected + n) (getD (blocksShown s) k noBlock .pages) (rw (shown-at s k kb) l))))
 
   -- 15, NOWORK
-  nowork-good : (block : ℕ) → removalOf s .position < removalOf s .count → Turn s (effect (settledEvent (removalOf s .channel) (removalOf s .position) DR-MEM-RES-NOWORK 0 block) (withRemoval s (settled (removalOf s) DR-MEM-RES-NOWORK)) []) → Good s (effect (settledEvent (removalOf s .channel) (removalOf s .position) DR-MEM-RES-NOWORK 0 block) (withRemoval s (settled (removalOf s) DR-MEM-RES-NOWORK)) [])
+  nowork-good : (block : ℕ) → block < blocksOf s → removalOf s .collected ≡ 0 → removalOf s .position < removalOf s .count → Turn s (effect (settledEvent (removalOf s .channel) (removalOf s .position) DR-MEM-RES-NOWORK 0 block) (withRemoval s (settled (removalOf s) DR-MEM-RES-NOWORK)) []) → Good s (effect (settledEvent (removalOf s .channel) (removalOf s .position) DR-MEM-RES-NOWORK 0 block) (withRemoval s (settled (removalOf s) DR-MEM-RES-NOWORK)) [])
   unfolding fieldsOf read pick steppedRemoval
-  nowork-good block h turn =
+  nowork-good block kb none h turn =
       removal-changed s g (settledEvent (removalOf s .channel) (removalOf s .position) DR-MEM-RES-NOWORK 0 block) []
       (settled (removalOf s) DR-MEM-RES-NOWORK)
       (settled-arrays DR-MEM-RES-NOWORK)
@@ -165,11 +181,12 @@ module _ (s : List ℕ) (g : Given s) (o : isSet (outstandingOf s) ≡ true) whe
       short-empty
       (settled-facts s DR-MEM-RES-NOWORK h nowork-result)
       (λ blocks removal. turn)
+      (settled-needs _ _ _ _ _ _ block (removing-shown s g o) (settles-here block 0 kb (omega arith)))
 
   -- 15, OK: the block's flag falls as well
-  taken-good : (k n : ℕ) → removalOf s .position < removalOf s .count → n ≤ mostBudget → k < blocksOf s → blockAt s k .permanent ≡ 0 → Turn s (effect (settledEvent (removalOf s .channel) (removalOf s .position) DR-MEM-RES-OK n k) (withRemoval (withConfigured s k 0) (settled (removalOf s) DR-MEM-RES-OK)) []) → Good s (effect (settledEvent (removalOf s .channel) (removalOf s .position) DR-MEM-RES-OK n k) (withRemoval (withConfigured s k 0) (settled (removalOf s) DR-MEM-RES-OK)) [])
+  taken-good : (k n : ℕ) → removalOf s .position < removalOf s .count → n ≤ mostBudget → k < blocksOf s → removalOf s .collected + n ≤ blockAt s k .pages → blockAt s k .permanent ≡ 0 → Turn s (effect (settledEvent (removalOf s .channel) (removalOf s .position) DR-MEM-RES-OK n k) (withRemoval (withConfigured s k 0) (settled (removalOf s) DR-MEM-RES-OK)) []) → Good s (effect (settledEvent (removalOf s .channel) (removalOf s .position) DR-MEM-RES-OK n k) (withRemoval (withConfigured s k 0) (settled (removalOf s) DR-MEM-RES-OK)) [])
   unfolding fieldsOf read pick steppedRemoval seeBlocks seeRemoval settled
-  taken-good k n h l kb z turn =
+  taken-good k n h l kb most z turn =
       let w = shape s g in
       let few : k < mostBlocks = omega (arith, w .few) in
       let a = configured-moves s w k 0 few in
@@ -187,6 +204,7 @@ module _ (s : List ℕ) (g : Given s) (o : isSet (outstandingOf s) ≡ true) whe
             removes-made (withConfigured s k 0) (lastOf s + 1) (settled (removalOf s) DR-MEM-RES-OK) (w′ .size) (w′ .few) (settled-arrays DR-MEM-RES-OK)
             (settled-facts (withConfigured s k 0) DR-MEM-RES-OK h ok-result);
         turn = turn;
+        need = settled-needs _ _ _ _ _ n k (removing-shown s g o) (settles-here k n kb most);
       }
 
   -- 16
@@ -209,6 +227,7 @@ module _ (s : List ℕ) (g : Given s) (o : isSet (outstandingOf s) ≡ true) whe
     base = base-without s (lastOf s + 1) (base-now s g);
     removal = removes-none (withoutRemoval s) (lastOf s + 1) (without-outstanding s (g .size));
     turn = turn;
+    need = end-needs _ _ _ _ replied _ (removing-shown s g o);
   }
 
   ending-good : Turn s (ending s (removalOf s)) → Good s (ending s (removalOf s))
@@ -225,6 +244,10 @@ module _ (s : List ℕ) (g : Given s) (o : isSet (outstandingOf s) ≡ true) whe
   room-now : (i : ℕ) → Working s (removalOf s) i → blockAt s i .configured ≡ 1 → removalRoom s (removalOf s) ≡ blockAt s i .pages
   unfolding removalRoom roomAt pick
   room-now i w e = rw (lt-ltb _ _ (w .more), w .named, eq-eqb _ 1 e)
+
+  -- of an unconfigured block no page is collected
+  none-collected : (i : ℕ) → Working s (removalOf s) i → blockAt s i .configured ≡ 0 → removalOf s .collected ≡ 0
+  none-collected i w z = no-room _ _ (facts .room) (unfold removalRoom roomAt pick in rw (lt-ltb _ _ (w .more), w .named, z))
 
   flag-one : (c : ℕ) → c ≤ 1 → (c ≡ 0 → ⊥) → c ≡ 1
   flag-one zero h n = absurd (n refl)
@@ -246,7 +269,7 @@ module _ (s : List ℕ) (g : Given s) (o : isSet (outstandingOf s) ≡ true) whe
       let less = named-less s (addrNow (removalOf s)) (sizeNow (removalOf s)) i (w .named) in
       let r = remains i w n in
       on-pick (λ (e : Effect). Turn s e → Good s e) _ _ _
-      (λ q. taken-good i _ (w .more) (omega arith) less (w .movable))
+      (λ q. taken-good i _ (w .more) (omega arith) less (omega (arith, r .0, r .1)) (w .movable))
       (λ q. collected-good _ (blockAt s i .pages) (omega arith) (r .0) (omega (arith, r .1, eqb-false, leb-false)))
 
 pub working-good : (s : List ℕ) (g : Given s) (budget : ℕ) → isSet (outstandingOf s) ≡ true → 1 ≤ budget → budget ≤ mostBudget → Good s (working s budget .effects)
@@ -254,7 +277,9 @@ working-good s g budget o one l =
     on-step (λ (x : WorkStep). Turn s (x .effects) → Good s (x .effects)) s (removalOf s) budget
     (record {
       onEnd = ending-good s g o;
-      onNowork = λ i w z. nowork-good s g o i (w .more);
+      onNowork =
+          λ i w z.
+          nowork-good s g o i (named-less s (addrNow (removalOf s)) (sizeNow (removalOf s)) i (w .named)) (none-collected s g o i w z) (w .more);
       onCollect = λ i w n. collects-good s g o i budget l w n;
     })
     (steps s budget one g (same-blocks s s (g .facts .base .few) (λ j lo hi. refl)) (same-removal s s (λ j lo hi. refl)) (removes-now s g o .one) refl)

@@ -10,7 +10,9 @@ use Rattle.model.specs.declared.Drained.{Drained}
 use Rattle.model.specs.declared.Started.{Started}
 use Rattle.model.specs.Blocks.{Lists}
 use Rattle.model.specs.Calls.{Action, receive, offer, withdraw, close, work, Call, act, drain, Outcome, outcome, started, shown}
-use Rattle.model.specs.Demand3.{Run, Done, after, runs, newRun, Demand3}
+use Rattle.model.specs.Demand3.{Run, Done, after, runs, newRun, entries, Demand3}
+use Rattle.model.specs.Reading.{viewOf}
+use Rattle.model.specs.Replay.{good, checked}
 use Rattle.model.specs.Repeats.{Repeats}
 use Rattle.model.specs.Ends.{Ends}
 
@@ -104,11 +106,17 @@ OfEveryList P =
     AllMeet (newRun (r .state) j) ds →
     P l (r .state) j ds
 
+-- 02, ticket 3: "the entries of every list of demand 3 pass with its block list": drained, then held, they are all good, and show what the last state has
+abbrev pub Passes : Lists → List ℕ → List ℕ → List Done → Type 0
+Passes l s j ds =
+    checked l (entries (runs (newRun s j) ds)) ≡ good (runs (newRun s j) ds .number) (viewOf (runs (newRun s j) ds .state))
+
 -- What holds of a list of calls: demand 3, and what the tickets claim of the same lists.
 pub record ListHolds (l : Lists) (s j : List ℕ) (ds : List Done) : Type 0 where
   pub demand3 : Demand3 l s j ds (runs (newRun s j) ds)
   pub repeats : Repeats s j ds
   pub ends : Ends l s j ds
+  pub passes : Passes l s j ds
 
 abbrev pub ListsHold : Type 0
 ListsHold = OfEveryList ListHolds

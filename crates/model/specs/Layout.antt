@@ -256,6 +256,10 @@ pub record Block : Type 0 where
   pub permanent : ℕ
   pub configured : ℕ
 
+-- where there is none
+abbrev pub noBlock : Block
+noBlock = record { base = 0; pages = 0; first = 0; permanent = 0; configured = 0 }
+
 -- block i of those whose words stand in l from at on
 unfoldable pub blockIn : List ℕ → ℕ → ℕ → Block
 blockIn l at i = record {

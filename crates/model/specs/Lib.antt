@@ -11,6 +11,8 @@ pub mod Work
 pub mod Calls
 pub mod Reading
 pub mod Demand3
+pub mod Replay
+pub mod Text
 pub mod Repeats
 pub mod Ends
 pub mod Kept

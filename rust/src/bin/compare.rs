@@ -2,7 +2,7 @@
 //! the program HOST and to the independent host, compares their outputs byte
 //! for byte, and counts what the list reached.
 
-use independent::comparing::{count, print_zeros, same, verdict};
+use independent::comparing::{count, print_zeros, same, verdict, Tally};
 use independent::counts::Counts;
 use independent::generate::generate;
 use independent::lines::Host;
@@ -43,7 +43,7 @@ fn compare(wanted: &Arguments) -> io::Result<bool> {
         counts.made(&fs::read_to_string(file)?);
     }
     print!("{counts}");
-    let zeros = print_zeros(&counts);
+    let zeros = print_zeros(&counts.zeros());
     let calls = counts.calls();
     println!("{calls} calls from seed {seed}: no difference, {zeros} zero counts");
     Ok(same.well && zeros == 0)

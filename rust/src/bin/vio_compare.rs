@@ -2,7 +2,7 @@
 //! and to the independent ends, compares their outputs byte for byte, and
 //! counts what the list reached.
 
-use independent::comparing::{count, print_zeros, same, verdict};
+use independent::comparing::{count, print_zeros, same, verdict, Tally};
 use independent::vio::counts::Counts;
 use independent::vio::generate::generate;
 use independent::vio::Host;
@@ -17,7 +17,7 @@ fn compare(program: &str, lines: u64, seed: u64) -> io::Result<bool> {
     };
     let counts: Counts = count(&input, &same);
     print!("{counts}");
-    let zeros = print_zeros(&counts);
+    let zeros = print_zeros(&counts.zeros());
     let lines = counts.lines();
     println!("{lines} lines from seed {seed}: no difference, {zeros} zero counts");
     Ok(same.well && zeros == 0)

@@ -5,7 +5,7 @@ mod actions;
 mod messages;
 pub(crate) mod noise;
 pub mod random;
-mod setups;
+pub(crate) mod setups;
 pub(crate) mod text;
 
 use crate::lines::{Call, Host, Line};

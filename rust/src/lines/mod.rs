@@ -6,7 +6,7 @@ mod host;
 
 pub use call::{number, Call};
 pub use feed::{answer_of, serve, Ask, FeedOf, LineOf, Program, MAX_LINE};
-pub use host::{write_digits, Host};
+pub use host::{write_blocks, write_channels, write_digits, Host};
 
 /// What a line of the host is.
 pub type Line = LineOf<Call>;

@@ -1,0 +1,159 @@
+//! What saved files reached.
+
+use super::damage::Damage;
+use super::File;
+use crate::block::Blocks;
+use crate::entry::{COUNT, KIND};
+use crate::reader::fields::{named, KINDS};
+use crate::reader::{output, Verdict, ENTRY, WORD};
+use crate::wire::get64;
+use std::collections::BTreeMap;
+use std::fmt::{self, Display, Formatter};
+
+/// The lines of a good file, as far as they are the same for all of them.
+const SHOWN: [&str; 6] = [
+    "channel ready",
+    "channel closed",
+    "service offered",
+    "service registered",
+    "block configured",
+    "block unconfigured",
+];
+
+/// What files may have that no agent drains.
+const GROWN: [&str; 3] = [
+    "cancelled before it is settled",
+    "begun anew after pages collected",
+    "begun anew after a record settled",
+];
+
+/// The removal of a good file, as far as these need it: pages that no longer
+/// count, records settled.
+#[derive(Default)]
+struct RemovalSteps {
+    collected: u64,
+    returned: u64,
+    settled: bool,
+}
+
+impl RemovalSteps {
+    /// The name of what an entry does, if it is one of `GROWN`.
+    fn entry(&mut self, first: u64, second: u64, blocks: &Blocks) -> Option<&'static str> {
+        let count = COUNT.of(first);
+        match KIND.of(first) {
+            12 => {
+                let before = std::mem::take(self);
+                let anew = [
+                    (before.collected, GROWN[1]),
+                    (before.settled.into(), GROWN[2]),
+                ];
+                let reached = anew.iter().find(|(reached, _)| *reached > 0);
+                return reached.map(|(_, name)| *name);
+            }
+            13 => (self.returned, self.collected) = (self.returned.max(self.collected), 0),
+            14 => self.collected += count,
+            15 => {
+                let before = std::mem::take(self);
+                self.settled = true;
+                let pages = blocks.list[second as usize].pages;
+                return (before.returned + count > pages).then_some(GROWN[0]);
+            }
+            16 => *self = RemovalSteps::default(),
+            _ => {}
+        }
+        None
+    }
+}
+
+/// Counts by name.
+pub struct Counts {
+    listed: BTreeMap<String, u64>,
+    files: u64,
+    damaged: u64,
+}
+
+impl Default for Counts {
+    fn default() -> Counts {
+        let bad = Damage::all().into_iter().map(|damage| damage.to_string());
+        let kinds = (0..KINDS).filter(|kind| named(*kind).is_some());
+        let kinds = kinds.map(|kind| format!("good kind {kind:2}"));
+        let shown = SHOWN.iter().map(|line| format!("shown {line}"));
+        let grown = GROWN.iter().map(|name| format!("good {name}"));
+        let names = bad.map(|name| format!("bad {name}"));
+        let names = names.chain(kinds).chain(shown).chain(grown);
+        let names = names.chain(["good file".into(), "good file of no entries".into()]);
+        Counts {
+            listed: names.map(|name| (name, 0)).collect(),
+            files: 0,
+            damaged: 0,
+        }
+    }
+}
+
+impl Counts {
+    fn add(&mut self, name: String) {
+        *self.listed.entry(name).or_default() += 1;
+    }
+
+    /// Counts a file and what the reader says of it.
+    pub fn file(&mut self, file: &File, verdict: &Verdict) {
+        self.files += 1;
+        self.damaged += u64::from(file.damaged);
+        let reading = match verdict {
+            Ok(reading) => reading,
+            Err(bad) => return self.add(format!("bad {}", Damage::of(bad))),
+        };
+        let start = WORD + get64(&file.bytes, 0) as usize * WORD;
+        let entries = file.bytes[start..].chunks_exact(ENTRY);
+        self.add("good file".into());
+        if entries.len() == 0 {
+            self.add("good file of no entries".into());
+        }
+        let mut removal = RemovalSteps::default();
+        for entry in entries {
+            let (first, second) = (get64(entry, 0), get64(entry, WORD));
+            self.add(format!("good kind {:2}", KIND.of(first)));
+            if let Some(name) = removal.entry(first, second, &reading.blocks) {
+                self.add(format!("good {name}"));
+            }
+        }
+        for line in String::from_utf8_lossy(&output(verdict)).lines() {
+            let mut words = line.split(' ');
+            if let (Some(what), Some(_), Some(how)) = (words.next(), words.next(), words.next()) {
+                self.add(format!("shown {what} {how}"));
+            }
+        }
+    }
+
+    /// Adds the counts of other files.
+    pub fn join(&mut self, other: Counts) {
+        for (name, count) in other.listed {
+            *self.listed.entry(name).or_default() += count;
+        }
+        self.files += other.files;
+        self.damaged += other.damaged;
+    }
+
+    pub fn files(&self) -> u64 {
+        self.files
+    }
+
+    /// The names of the counts that are zero, or too low, and must not be.
+    pub fn zeros(&self) -> Vec<String> {
+        let listed = self.listed.iter().filter(|(_, count)| **count == 0);
+        let mut zeros: Vec<String> = listed.map(|(name, _)| name.clone()).collect();
+        if self.damaged * 2 < self.files {
+            zeros.push("half of the files damaged".into());
+        }
+        zeros
+    }
+}
+
+impl Display for Counts {
+    fn fmt(&self, text: &mut Formatter) -> fmt::Result {
+        for (name, count) in &self.listed {
+            writeln!(text, "{name:36} {count:>10}")?;
+        }
+        writeln!(text, "{:36} {:>10}", "files damaged", self.damaged)
+    }
+}

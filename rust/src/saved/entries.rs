@@ -1,0 +1,114 @@
+//! Random entries of one kind, made for what a reading shows.
+
+use crate::entry::{KIND, NUMBER};
+use crate::generate::random::Random;
+use crate::reader::fields::{named, Field};
+use crate::reader::Reading;
+use crate::state::{Service, CHANNELS, SERVICES};
+
+/// An entry that has the next number, and 0 in each field that its kind does
+/// not name. Its named fields often fit the reading, and often nearly do.
+pub fn entry(random: &mut Random, reading: &Reading, kind: usize) -> [u64; 2] {
+    let number = NUMBER.word(reading.entries + 1);
+    let mut words = [number | KIND.word(kind as u64), 0];
+    let channel = channel(random, reading, kind);
+    let block = block(random, reading);
+    for field in named(kind).unwrap_or_default() {
+        let value = match field {
+            Field::Channel => channel,
+            Field::Service => random.below(SERVICES as u64),
+            Field::Record => record(random, reading),
+            Field::Code => random.pick(&[0, 0, 0, 1, 2, 3, 4, 5, 7]),
+            Field::Count => count(random, reading, block),
+            Field::W => match kind {
+                5 | 9 => handle(random, reading, channel),
+                11 => bits(random, reading),
+                15 => block,
+                _ => random.next() >> random.below(64),
+            },
+        };
+        let [first, second] = field.words(value);
+        words = [words[0] | first, words[1] | second];
+    }
+    words
+}
+
+/// A channel: mostly one where service 0 is registered for a memory request,
+/// else often a ready one.
+fn channel(random: &mut Random, reading: &Reading, kind: usize) -> u64 {
+    let memory = (10..=13).contains(&kind);
+    let fits = |channel: &u64| {
+        let channel = &reading.channels[*channel as usize];
+        let registered = matches!(channel.services[0], Service::Registered { .. });
+        channel.ready && (registered || !memory)
+    };
+    let any = random.below(CHANNELS as u64);
+    let fitting: Vec<u64> = (0..CHANNELS as u64).filter(fits).collect();
+    match random.pick_any(&fitting) {
+        Some(channel) if !random.once_in(3) => channel,
+        _ => any,
+    }
+}
+
+/// The record at the position, if there is one, or any.
+fn record(random: &mut Random, reading: &Reading) -> u64 {
+    let any = random.below(16);
+    match reading.removal {
+        Some(removal) if !random.once_in(4) => removal.position & 15,
+        _ => any,
+    }
+}
+
+/// The place of a block, mostly of one that is listed.
+fn block(random: &mut Random, reading: &Reading) -> u64 {
+    let count = reading.blocks.count as u64;
+    let listed = random.below(count.max(1));
+    match random.weighted(&[70, 10, 5, 10, 5]) {
+        0 => listed,
+        1 => count,
+        2 => random.between(count, 64),
+        3 => listed | random.pick(&[1 << 6, 1 << 32, 1 << 63]),
+        _ => random.next(),
+    }
+}
+
+/// Pages: what remains of a block, one more, or any number.
+fn count(random: &mut Random, reading: &Reading, block: u64) -> u64 {
+    let collected = reading.removal.map_or(0, |removal| removal.collected);
+    let listed = reading.blocks.listed().get(block as usize);
+    let remains = listed.map_or(0, |block| block.pages.saturating_sub(collected));
+    let count = match random.weighted(&[30, 30, 20, 20]) {
+        0 => remains,
+        1 => remains + 1,
+        2 => random.below(10),
+        _ => random.next() >> 48,
+    };
+    count.min(Field::Count.most())
+}
+
+/// A handle: offered or registered on the channel, nearly one, or any.
+fn handle(random: &mut Random, reading: &Reading, channel: u64) -> u64 {
+    let services = &reading.channels[channel as usize].services;
+    let live: Vec<u64> = services.iter().filter_map(Service::handle).collect();
+    let any = random.up_to(reading.entries + 1);
+    let live = random.pick_any(&live).unwrap_or(any);
+    match random.weighted(&[70, 15, 5, 5, 5]) {
+        0 => live,
+        1 => any,
+        2 => live | 1 << 32,
+        3 => live << 32,
+        _ => random.next(),
+    }
+}
+
+/// Bits of blocks, mostly of those that are listed.
+fn bits(random: &mut Random, reading: &Reading) -> u64 {
+    let count = reading.blocks.count as u64;
+    let listed = random.next() & ((1 << count) - 1);
+    match random.weighted(&[60, 15, 15, 10]) {
+        0 => listed,
+        1 => listed | 1 << count,
+        2 => listed | 1 << random.between(count, 63),
+        _ => random.next(),
+    }
+}

@@ -1,0 +1,74 @@
+//! Files that are good.
+
+use super::entries::entry;
+use super::list::{kind_of, verdict, Saved};
+use crate::generate::random::Random;
+use crate::reader::fields::{named, KINDS};
+
+/// The kinds of other tickets, which show nothing.
+const OTHERS: [usize; 8] = [18, 19, 20, 21, 22, 23, 24, 31];
+
+/// A good file made from what the agent drained: the same, with entries of
+/// other tickets, with other values where any is good, or its beginning and
+/// entries that the agent would not write.
+pub fn whole(random: &mut Random, drained: &Saved) -> Saved {
+    let mut saved = drained.clone();
+    match random.weighted(&[40, 30, 15, 15]) {
+        0 => {}
+        1 => add_others(random, &mut saved),
+        2 => change_free(random, &mut saved),
+        _ => grow(random, &mut saved),
+    }
+    saved
+}
+
+fn add_others(random: &mut Random, saved: &mut Saved) {
+    for _ in 0..random.between(1, 6) {
+        let kind = random.pick(&OTHERS);
+        let place = random.up_to(saved.entries.len() as u64) as usize;
+        let added = entry(random, &saved.before(place), kind);
+        saved.insert(place, added);
+    }
+}
+
+/// Changes named fields of some entries, where the file stays good.
+fn change_free(random: &mut Random, saved: &mut Saved) {
+    for _ in 0..random.between(1, 6) {
+        let places: Vec<usize> = (0..saved.entries.len()).collect();
+        let Some(place) = random.pick_any(&places) else {
+            return;
+        };
+        let kept = saved.entries[place];
+        let fields = named(kind_of(&kept)).unwrap_or_default();
+        let Some(field) = random.pick_any(fields) else {
+            continue;
+        };
+        let [first, second] = field.words(random.between(1, field.most()));
+        saved.entries[place] = [kept[0] ^ first, kept[1] ^ second];
+        if verdict(&saved.bytes()).is_err() {
+            saved.entries[place] = kept;
+        }
+    }
+}
+
+/// Adds entries that a reading accepts, one after another.
+fn grow(random: &mut Random, saved: &mut Saved) {
+    let kept = random.up_to(saved.entries.len() as u64) as usize;
+    saved.entries.truncate(kept);
+    let mut reading = saved.before(kept);
+    for _ in 0..random.between(1, 200) {
+        let kind = match random.weighted(&[10, 20, 20, 50]) {
+            0 => random.below(KINDS as u64),
+            1 => random.pick(&[1, 4, 5]),
+            2 => random.between(1, 17),
+            _ if reading.removal.is_none() => 12,
+            _ => random.pick(&[12, 13, 13, 14, 14, 14, 15, 15, 15, 15, 15]),
+        };
+        let added = entry(random, &reading, kind as usize);
+        let mut next = reading.clone();
+        if next.entry(added).is_ok() {
+            saved.entries.push(added);
+            reading = next;
+        }
+    }
+}
