@@ -34,7 +34,7 @@ int main(void)
                                             0,    0,    0, 0, 0x10, 0, 0, 0, 0, 0, 0, 0, 0, 0, 0x80, 0};
     uint64_t run[ARKELUTZ_JOURNAL_WORDS];
     uint64_t state[ARKELUTZ_STATE_WORDS];
-    uint64_t refused = arkelutz_setup(state, blocks, sizeof blocks / sizeof *blocks);
+    uint64_t refused = arkelutz_setup(state, blocks, sizeof blocks / sizeof *blocks, NULL, 0);
 
     refused |= receive(state, init_1_0, sizeof init_1_0);
     refused |= arkelutz_offer(state, CHANNEL, MEMORY_SERVICE, journal, ARKELUTZ_JOURNAL_WORDS, out, sizeof out).refusal;

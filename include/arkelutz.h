@@ -7,7 +7,7 @@
  * that one call is lent overlap where one of them is written.
  *
  * refusal is 0 where the call was accepted, else the number of document 01 (1 to 8); then nothing was written anywhere, but by
- * arkelutz_setup the state of the empty list, and by arkelutz_work 0 to pages.
+ * arkelutz_setup the state of empty lists, and by arkelutz_work 0 to pages.
  * Nothing is allocated or kept between calls: the state and the journal are the caller's.
  */
 #ifndef ARKELUTZ_H
@@ -20,9 +20,36 @@
 extern "C" {
 #endif
 
-#define ARKELUTZ_STATE_WORDS 199
+#define ARKELUTZ_STATE_WORDS 1352
 #define ARKELUTZ_JOURNAL_WORDS 128 /* every call but setup and show asks for a journal of just this length */
 #define ARKELUTZ_OUTPUT_BYTES 672  /* and, but for drain, for an output of this length or more */
+
+/*
+ * A virtual device, as a device list has it: 36 words. The name is its bytes with their zero (1 to 256), eight to a word, the most significant first, so that
+ * on a big-endian machine they stand in memory as they are; the bytes after it in its last word are 0.
+ */
+#define ARKELUTZ_DEVICE_WORDS 36
+#define ARKELUTZ_NAME_BYTES 256
+
+struct arkelutz_device {
+    uint64_t id;
+    uint64_t configured; /* 0 or 1 */
+    uint64_t busy;       /* 0 or 1 */
+    uint64_t name_bytes;
+    uint64_t name[ARKELUTZ_NAME_BYTES / 8];
+};
+
+/* Gives a device the name that a string has, on either byte order. A string of more than 255 bytes gives a length that setup refuses. */
+static inline void arkelutz_name_device(struct arkelutz_device *device, const char *name)
+{
+    size_t bytes = 0;
+
+    for (size_t i = 0; i < ARKELUTZ_NAME_BYTES / 8; i++)
+        device->name[i] = 0;
+    for (; name[bytes] != 0 && bytes < ARKELUTZ_NAME_BYTES; bytes++)
+        device->name[bytes / 8] |= (uint64_t)(unsigned char)name[bytes] << (56 - bytes % 8 * 8);
+    device->name_bytes = bytes + 1;
+}
 
 struct arkelutz_answer {
     uint64_t refusal;
@@ -34,8 +61,9 @@ struct arkelutz_drained {
     size_t entries; /* at the start of the run, two words each */
 };
 
-/* Takes a block list, five words a block, writes the first state, and returns the refusal, 0 or 7. */
-uint64_t arkelutz_setup(uint64_t *state, const uint64_t *list, size_t list_words);
+/* Takes a block list, five words a block, and a device list, ARKELUTZ_DEVICE_WORDS words a device, writes the first state, and returns the refusal, 0 or 7. */
+uint64_t arkelutz_setup(uint64_t *state, const uint64_t *blocks, size_t block_words, const uint64_t *devices,
+                        size_t device_words);
 
 /* Receives a message on a channel. */
 struct arkelutz_answer arkelutz_receive(uint64_t *state, size_t channel, const uint8_t *message, size_t message_bytes,

@@ -1,10 +1,10 @@
 /*
  * Calls on made states, the same on every machine: states CALLS SEED.
  *
- * A state is set up from a random block list and brought on by messages; before a call some of its words may be replaced by random ones.
- * Each call writes a line with what it returned and a hash, which goes on from call to call, of every word of the state and the journal, every
- * byte of the output and every word of the run after it; each WORDS_EVERY calls the state's words follow. At the end stand the answers of each
- * call by refusal number. It fails if a call was never accepted, or no state was unsound.
+ * A state is set up from random lists of blocks and devices and brought on by messages; before a call some of its words may be replaced by
+ * random ones. Each call writes a line with what it returned and a hash, which goes on from call to call, of every word of the state and the
+ * journal, every byte of the output and every word of the run after it; each WORDS_EVERY calls the state's words follow. At the end stand the
+ * answers of each call by refusal number. It fails if a call was never accepted, or no state was unsound.
  */
 #include "arkelutz.h"
 
@@ -17,6 +17,11 @@
 #define SERVICES 4
 #define BLOCKS 16
 #define BLOCK_WORDS 5
+#define DEVICES 32
+#define DEVICE_WORDS 36
+#define NAME 4 /* the first of a device's words that hold its name */
+#define NAME_WORDS 32
+#define DEVICE_COUNT 199 /* the state's word before those of devices */
 #define RECORDS 16
 #define PAGE 8192
 #define SPARE 28 /* bytes of output past those that a call asks for */
@@ -34,6 +39,8 @@ static uint8_t out[ARKELUTZ_OUTPUT_BYTES + SPARE], message[MESSAGE_BYTES];
 static size_t message_bytes;
 static uint64_t list[BLOCKS * BLOCK_WORDS + 1];
 static size_t list_words;
+static uint64_t devices[(DEVICES + 1) * DEVICE_WORDS + 1];
+static size_t device_words;
 static uint64_t handles[CHANNELS][SERVICES], request;
 static uint64_t counts[CALLS][REFUSALS], parts, done, seed, hash = 14695981039346656037u;
 
@@ -130,7 +137,25 @@ static void put_request(uint64_t channel)
     }
 }
 
-/* Data for a service of the host's own. */
+/* A device request: of a device of the list, or of none. */
+static void put_device(uint64_t channel)
+{
+    static const uint32_t types[] = {0x494f43, 0x494f43, 0x494f55, 0x494f55, 0x494f46, 0x494f53, 0x494f44};
+    uint64_t type = types[below(sizeof types / sizeof *types)];
+    uint64_t listed = device_words / DEVICE_WORDS;
+    const uint64_t *device = devices + DEVICE_WORDS * below(listed ? listed : 1);
+    uint64_t bytes = below(8) && device[3] <= 8 * NAME_WORDS ? device[3] : below(300);
+
+    header(9, (uint32_t)(28 + bytes));
+    put(handle_of(channel, 1), 8);
+    put(sized(), 8);
+    put(below(10) ? device[0] : sized(), 8);
+    put(type, 4);
+    for (uint64_t i = 0; i < bytes; i++)
+        put(device[NAME + i / 8 % NAME_WORDS] >> (56 - 8 * (i % 8)), 1);
+}
+
+/* Data for any service but dr-mem. */
 static void put_data(uint64_t channel)
 {
     header(9, 24);
@@ -144,7 +169,7 @@ static void make_message(uint64_t channel)
     uint32_t type;
     uint8_t bit;
 
-    switch (below(16)) {
+    switch (below(22)) {
     case 0:
         header(0, 4);
         put(below(6) ? 1 : below(4), 2);
@@ -171,6 +196,14 @@ static void make_message(uint64_t channel)
         put_data(channel);
         break;
     case 5:
+    case 6:
+    case 7:
+    case 8:
+    case 9:
+    case 10:
+        put_device(channel);
+        break;
+    case 11:
         type = (uint32_t)below(12);
         header(type, (uint32_t)(below(4) ? 16 : sized()));
         put(any(), 8);
@@ -209,6 +242,41 @@ static void offer(uint64_t channel, uint64_t service)
         handles[channel][service] = handles[channel][service] << 8 | out[i];
 }
 
+/* A device with a name of so many bytes; the words past the name may be anything. */
+static void make_device(uint64_t *device, uint64_t id, uint64_t bytes)
+{
+    device[0] = id;
+    device[1] = below(2);
+    device[2] = below(2);
+    device[3] = bytes;
+    for (uint64_t i = 0; i + 1 < bytes; i++) {
+        uint64_t byte = 1 + below(below(2) ? 2 : 255);
+        device[NAME + i / 8] |= byte << (56 - 8 * (i % 8));
+    }
+    if (below(2))
+        return;
+    for (uint64_t i = (bytes + 7) / 8; i < NAME_WORDS; i++)
+        device[NAME + i] = any();
+}
+
+static void make_devices(void)
+{
+    uint64_t count = below(4) ? below(6) : below(DEVICES + 2);
+
+    memset(devices, 0, sizeof devices);
+    device_words = count * DEVICE_WORDS;
+    for (uint64_t i = 0; i < count; i++) {
+        uint64_t bytes = 1 + below(below(4) ? 8 : 8 * NAME_WORDS), id = below(8) ? 3 * i : below(9);
+        make_device(devices + i * DEVICE_WORDS, id, bytes);
+    }
+    if (below(8) == 0) {
+        uint64_t word = sized();
+        devices[below(device_words + 1)] = word;
+    }
+    if (below(30) == 0)
+        device_words = below(device_words + 2);
+}
+
 static void begin(void)
 {
     uint64_t blocks = below(6) ? 1 + below(6) : below(BLOCKS + 1), base = PAGE * below(1000);
@@ -235,7 +303,8 @@ static void begin(void)
     for (size_t i = 0; i < ARKELUTZ_STATE_WORDS; i++)
         state[i] = any();
     request = below(3) ? below(100) : any();
-    told(SETUP, arkelutz_setup(state, list, list_words), 0, 0);
+    make_devices();
+    told(SETUP, arkelutz_setup(state, list, list_words, devices, device_words), 0, 0);
     for (uint64_t channel = 0; channel < CHANNELS; channel++) {
         if (below(4) == 0)
             continue;
@@ -302,7 +371,8 @@ static void one_call(void)
     }
 }
 
-/* A call, now and then on a state of which one or two words were replaced. If that state is unsound, the words come back. */
+/* A call, now and then on a state of which one or two words were replaced, half of them before those of devices. If that state is unsound,
+ * the words come back. */
 static void made_call(void)
 {
     uint64_t kept[ARKELUTZ_STATE_WORDS], unsound = 0, after = 0;
@@ -311,7 +381,7 @@ static void made_call(void)
     memcpy(kept, state, sizeof state);
     for (uint64_t i = change ? 1 + below(2) : 0; i > 0; i--) {
         uint64_t word = below(3) ? sized() : below(2) ? below(5) : UINT32_MAX - below(2);
-        state[below(ARKELUTZ_STATE_WORDS)] = word;
+        state[below(below(2) ? DEVICE_COUNT + 1 : ARKELUTZ_STATE_WORDS)] = word;
     }
     for (size_t i = 0; i < CALLS; i++)
         unsound += counts[i][UNSOUND];

@@ -8,8 +8,8 @@ pub struct Independent;
 impl Agent for Independent {
     type State = independent::State;
 
-    fn setup(list: &[u64]) -> Result<Self::State, u64> {
-        independent::setup(list)
+    fn setup(blocks: &[u64], devices: &[u64]) -> Result<Self::State, u64> {
+        independent::setup(blocks, devices)
     }
 
     #[inline(never)]

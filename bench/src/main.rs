@@ -4,9 +4,11 @@
 //! copied back outside the time taken; the two agents take turns, and the
 //! fastest round of each counts.
 
+mod devices;
 mod independent_agent;
 mod proved_agent;
 
+use devices::Devices;
 use independent_agent::Independent;
 use proved_agent::Proved;
 use std::hint::black_box;
@@ -22,7 +24,7 @@ const BATCH: usize = 48;
 /// The calls that are timed, and those that lead to them.
 pub trait Agent {
     type State: Copy;
-    fn setup(list: &[u64]) -> Result<Self::State, u64>;
+    fn setup(blocks: &[u64], devices: &[u64]) -> Result<Self::State, u64>;
     fn receive(
         state: &mut Self::State,
         channel: u64,
@@ -84,14 +86,14 @@ fn request(memory_type: u32, number: u64, count: u64, blocks: u64, handle: u64) 
 impl<A: Agent> Host<A> {
     /// `blocks` configured blocks of 1,048,576 pages, one page of each permanent
     /// but for the last; `channels` channels with four services registered each.
-    fn new(blocks: u64, channels: u64) -> Self {
+    fn new(blocks: u64, channels: u64, devices: Devices) -> Self {
         let mut list = Vec::new();
         for block in 0..blocks {
             let permanent = u64::from(block + 1 < blocks);
             list.extend([block * BLOCK_BYTES, 1 << 20, 0, permanent, 1]);
         }
         let mut host = Host {
-            state: A::setup(&list).expect("the block list is accepted"),
+            state: A::setup(&list, &devices.words()).expect("the lists are accepted"),
             journal: [0; 128],
             out: [0; 672],
             run: [0; 128],
@@ -152,12 +154,13 @@ impl<A: Agent> Host<A> {
     }
 }
 
-/// A case: the blocks, the channels that are ready, what comes before the
-/// calls, and the calls of a batch.
+/// A case: the blocks, the channels that are ready, the devices, what comes
+/// before the calls, and the calls of a batch.
 struct Case {
     name: String,
     blocks: u64,
     channels: u64,
+    devices: Devices,
     prepare: Prepare,
     calls: Calls,
 }
@@ -172,6 +175,9 @@ enum Prepare {
 
 enum Calls {
     Query(u64),
+    /// Requests of the last device: STATUS, UNCONFIGURE, STATUS, CONFIGURE, and
+    /// again.
+    Device,
     Work,
     DrainOne,
     DrainFull,
@@ -179,7 +185,7 @@ enum Calls {
 
 impl Case {
     fn host<A: Agent>(&self) -> Host<A> {
-        let mut host = Host::<A>::new(self.blocks, self.channels);
+        let mut host = Host::<A>::new(self.blocks, self.channels, self.devices);
         match self.prepare {
             Prepare::Nothing => {}
             Prepare::Removal => host.receive(0, &request(UNCONFIGURE, 1, 1, self.blocks, 2)),
@@ -192,46 +198,57 @@ impl Case {
         host
     }
 
-    /// One batch of calls: queries with numbers that rise. A drain of all
-    /// entries has a state of its own each time.
-    fn batch<A: Agent>(&self, host: &mut Host<A>, queries: &[Vec<u8>], copies: &mut [A::State; BATCH]) {
-        for (copy, query) in copies.iter_mut().zip(queries) {
+    /// One batch of calls, by messages whose numbers rise. A drain of all
+    /// entries has a state of its own each time, one of the copies.
+    fn batch<A: Agent>(&self, host: &mut Host<A>, messages: &[Vec<u8>], copies: &mut [A::State]) {
+        for copy in copies {
+            let drained = A::drain(copy, &host.journal, &mut host.run);
+            black_box(drained).expect("the drain is accepted");
+        }
+        for message in messages {
             match self.calls {
-                Calls::Query(_) => host.receive(0, query),
+                Calls::Query(_) | Calls::Device => host.receive(0, message),
                 Calls::Work => host.work(),
                 Calls::DrainOne => host.drain(2),
-                Calls::DrainFull => {
-                    let drained = A::drain(copy, &host.journal, &mut host.run);
-                    black_box(drained).expect("the drain is accepted");
-                }
+                Calls::DrainFull => {}
             }
         }
     }
 
     /// Times a batch, and gives the least nanoseconds a call so far.
-    fn round<A: Agent>(&self, host: &mut Host<A>, queries: &[Vec<u8>], least: f64) -> f64 {
+    fn round<A: Agent>(&self, host: &mut Host<A>, messages: &[Vec<u8>], least: f64) -> f64 {
         let saved = host.state;
-        let mut copies = [saved; BATCH];
+        let copies = match self.calls {
+            Calls::DrainFull => BATCH,
+            _ => 0,
+        };
+        let mut copies = vec![saved; copies];
         let begin = Instant::now();
-        self.batch(host, queries, &mut copies);
+        self.batch(host, messages, &mut copies);
         let nanoseconds = begin.elapsed().as_nanos() as f64 / BATCH as f64;
         host.state = saved;
         least.min(nanoseconds)
     }
 
+    /// The message of a call; handle 2 is that of `dr-mem`, 4 that of `dr-vio`.
+    fn message(&self, number: u64) -> Vec<u8> {
+        match self.calls {
+            Calls::Device => ds_message(9, &self.devices.request(4, number)),
+            Calls::Query(records) => request(QUERY, number, records, self.blocks, 2),
+            _ => Vec::new(),
+        }
+    }
+
     fn run(&self) {
-        let records = match self.calls {
-            Calls::Query(records) => records,
-            _ => 1,
-        };
-        let query = |number| request(QUERY, number, records, self.blocks, 2);
-        let queries: Vec<_> = (0..BATCH as u64).map(query).collect();
+        let messages: Vec<_> = (0..BATCH as u64)
+            .map(|number| self.message(number))
+            .collect();
         let mut ours = self.host::<Proved>();
         let mut theirs = self.host::<Independent>();
         let (mut least, mut least_theirs) = (f64::MAX, f64::MAX);
         for _ in 0..ROUNDS {
-            least = self.round(&mut ours, &queries, least);
-            least_theirs = self.round(&mut theirs, &queries, least_theirs);
+            least = self.round(&mut ours, &messages, least);
+            least_theirs = self.round(&mut theirs, &messages, least_theirs);
         }
         assert_eq!(
             ours.seen(),
@@ -240,7 +257,7 @@ impl Case {
             self.name
         );
         println!(
-            "{:<46} {:>10.1} {:>12.1} {:>8.2}",
+            "{:<50} {:>10.1} {:>12.1} {:>8.2}",
             self.name,
             least,
             least_theirs,
@@ -258,11 +275,13 @@ fn cases() -> Vec<Case> {
                 name: format!("QUERY: records {records}, blocks {blocks}, live handles {handles}"),
                 blocks,
                 channels,
+                devices: Devices::NONE,
                 prepare: Prepare::Nothing,
                 calls: Calls::Query(records),
             });
         }
     }
+    cases.extend(device_cases());
     let others = [
         ("work step, 1 page collected", Prepare::Removal, Calls::Work),
         ("drain of 1 entry", Prepare::Full, Calls::DrainOne),
@@ -273,7 +292,30 @@ fn cases() -> Vec<Case> {
             name: name.to_string(),
             blocks: 16,
             channels: 1,
+            devices: Devices::NONE,
             prepare,
+            calls,
+        });
+    }
+    cases
+}
+
+/// With no, few and all devices: a query of one of four blocks, and device
+/// requests.
+fn device_cases() -> Vec<Case> {
+    let mut cases = Vec::new();
+    let queries =
+        Devices::ALL.map(|devices| ("QUERY: records 1, blocks 4", devices, Calls::Query(1)));
+    let requests = Devices::ALL.map(|devices| ("device request", devices, Calls::Device));
+    // To a query the name of an unknown device is nothing.
+    let rows = queries.into_iter().skip(1).chain(requests);
+    for (name, devices, calls) in rows {
+        cases.push(Case {
+            name: format!("{name}, {devices}"),
+            blocks: 4,
+            channels: 1,
+            devices,
+            prepare: Prepare::Nothing,
             calls,
         });
     }
@@ -282,7 +324,7 @@ fn cases() -> Vec<Case> {
 
 fn main() {
     println!(
-        "{:<46} {:>10} {:>12} {:>8}",
+        "{:<50} {:>10} {:>12} {:>8}",
         "ns a call", "proved", "independent", "ratio"
     );
     cases().iter().for_each(Case::run);

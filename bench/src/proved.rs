@@ -1,16 +1,10 @@
 //! The proved agent, by its static library. Nothing checks these declarations
 //! against crates/exports but the comparisons of results in this package.
 
-const STATE_WORDS: usize = 199;
+pub const STATE_WORDS: usize = 1_352;
 
 /// The agent's state.
 pub type Words = [u64; STATE_WORDS];
-
-/// Setup's answer.
-pub struct Started {
-    pub refusal: u64,
-    pub state: Words,
-}
 
 #[repr(C)]
 pub struct Answer {
@@ -32,7 +26,13 @@ pub struct Drained {
 }
 
 extern "C" {
-    fn arkelutz_setup(state: *mut Words, list: *const u64, words: usize) -> u64;
+    fn arkelutz_setup(
+        state: *mut Words,
+        blocks: *const u64,
+        block_words: usize,
+        devices: *const u64,
+        device_words: usize,
+    ) -> u64;
     fn arkelutz_receive(
         state: *mut Words,
         channel: usize,
@@ -93,11 +93,18 @@ extern "C" {
     ) -> usize;
 }
 
+/// Writes the first state; gives the refusal.
 #[inline]
-pub fn setup(list: &[u64]) -> Started {
-    let mut state = [0; STATE_WORDS];
-    let refusal = unsafe { arkelutz_setup(&mut state, list.as_ptr(), list.len()) };
-    Started { refusal, state }
+pub fn setup(state: &mut Words, blocks: &[u64], devices: &[u64]) -> u64 {
+    unsafe {
+        arkelutz_setup(
+            state,
+            blocks.as_ptr(),
+            blocks.len(),
+            devices.as_ptr(),
+            devices.len(),
+        )
+    }
 }
 
 #[inline]

@@ -1,7 +1,7 @@
 //! The proved agent as the benchmark calls it.
 
 use crate::Agent;
-use bench::proved::{self, Words};
+use bench::proved::{self, Words, STATE_WORDS};
 
 /// 0 is acceptance, any other number the refusal.
 fn outcome<T>(refusal: u64, value: T) -> Result<T, u64> {
@@ -16,9 +16,10 @@ pub struct Proved;
 impl Agent for Proved {
     type State = Words;
 
-    fn setup(list: &[u64]) -> Result<Self::State, u64> {
-        let started = proved::setup(list);
-        outcome(started.refusal, started.state)
+    fn setup(blocks: &[u64], devices: &[u64]) -> Result<Self::State, u64> {
+        let mut state = [0; STATE_WORDS];
+        let refusal = proved::setup(&mut state, blocks, devices);
+        outcome(refusal, state)
     }
 
     fn receive(

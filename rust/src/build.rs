@@ -71,6 +71,14 @@ pub fn memory(memory_type: u32, argument: u32, request: u64, pairs: &[Pair]) -> 
     bytes
 }
 
+/// A device request, not yet in DATA.
+pub fn device(request: u64, id: u64, asked: u32, name: &[u8]) -> Vec<u8> {
+    let mut bytes = [request.to_be_bytes(), id.to_be_bytes()].concat();
+    bytes.extend_from_slice(&asked.to_be_bytes());
+    bytes.extend_from_slice(name);
+    bytes
+}
+
 /// A request with the argument that its pairs need.
 pub fn request(memory_type: u32, request: u64, pairs: &[Pair]) -> Vec<u8> {
     memory(memory_type, pairs.len() as u32, request, pairs)

@@ -1,13 +1,16 @@
 //! What a list of calls reached, counted from the input and a host's output.
 
+mod devices;
 mod numbers;
+mod replay;
 
 use crate::comparing::Tally;
-use crate::entry::{CODE, COUNT, KIND};
+use crate::device::service::REPLY_BYTES;
+use crate::entry::{CODE, COUNT, KIND, SERVICE};
 use crate::lines::{Call, Line};
 use crate::memory::{self, PAIR_BYTES, QUERY_BYTES, RECORDS_START, RESULT_BYTES};
 use crate::wire::{self, get32, get64};
-use numbers::Numbers;
+use replay::Replay;
 use std::collections::BTreeMap;
 use std::fmt::{self, Display, Formatter};
 
@@ -78,7 +81,7 @@ const MUST_REACH: [(&str, &str); 30] = [
 /// The names of the counts that any long list of calls must reach.
 fn must_reach() -> Vec<String> {
     let mut names = vec!["line bad".to_string()];
-    for (group, members) in MUST_REACH {
+    for (group, members) in MUST_REACH.into_iter().chain(devices::MUST_REACH) {
         names.extend(
             members
                 .split(", ")
@@ -153,7 +156,7 @@ fn result_name(result: u32) -> &'static str {
 pub struct Counts {
     listed: BTreeMap<String, u64>,
     made: Option<[u64; 9]>,
-    numbers: Numbers,
+    replay: Replay,
 }
 
 impl Default for Counts {
@@ -161,7 +164,7 @@ impl Default for Counts {
         Counts {
             listed: must_reach().into_iter().map(|name| (name, 0)).collect(),
             made: None,
-            numbers: Numbers::default(),
+            replay: Replay::default(),
         }
     }
 }
@@ -171,11 +174,19 @@ impl Tally for Counts {
         let output = String::from_utf8_lossy(output);
         match Line::read(line) {
             Line::PassedOver => self.add("line passed over".into()),
-            Line::Bad => self.add("line bad".into()),
-            Line::Call(call) => {
+            Line::Call(call) if !output.starts_with("bad line ") => {
                 self.call(&call, &output);
-                for name in self.numbers.call(&call) {
+                for name in self.replay.call(&call) {
                     self.add(name);
+                }
+            }
+            Line::Bad | Line::Call(_) => {
+                self.add("line bad".into());
+                if let Some(name) = devices::line::bad(line) {
+                    self.add(name);
+                }
+                if line.starts_with(b"setup") && self.replay.has_devices() {
+                    self.add("device lines kept by a bad setup line".into());
                 }
             }
         }
@@ -207,9 +218,7 @@ impl Counts {
                 let part = if fields.len() > 1 { "part" } else { "empty" };
                 self.add(format!("call show {part}"));
             }
-            (Call::State | Call::Output(_) | Call::Journal(_), _) => {
-                self.add(format!("call {name}"))
-            }
+            _ if !call.is_counted() => self.add(format!("call {name}")),
             (_, [_, "refused", number]) => {
                 self.add(format!("call {name} refused"));
                 self.add(format!("refusal {number} {name}"));
@@ -234,8 +243,10 @@ impl Counts {
         let first = u64::from_str_radix(first, 16).unwrap_or(0);
         let (kind, code) = (KIND.of(first), CODE.of(first));
         self.add(format!("entry kind {kind:2}"));
-        if [10, 15, 16].contains(&kind) {
-            self.add(format!("entry code {kind}/{code}"));
+        match (kind, SERVICE.of(first)) {
+            (10, 1) => self.add(format!("entry code 10 of service 1 {code}")),
+            (10 | 15 | 16 | 18, _) => self.add(format!("entry code {kind}/{code}")),
+            _ => {}
         }
         if kind == 16 {
             let sent = if COUNT.of(first) == 1 {
@@ -280,7 +291,9 @@ impl Counts {
         };
         let form = if good.is_some() { "good" } else { "bad" };
         self.add(format!("DS received {name} {form}"));
-        if let Some(wire::Message::Data { data, .. }) = good {
+        // No reply to a memory message has the length of one to a device request.
+        let of_device = reply.len() == wire::DATA_START + REPLY_BYTES;
+        if let (Some(wire::Message::Data { data, .. }), false) = (good, of_device) {
             self.memory(data, reply);
         }
     }
@@ -392,7 +405,7 @@ impl Counts {
 
     /// All calls of lists, `state` not counted.
     pub fn calls(&self) -> u64 {
-        let not = ["call state", "call output", "call journal"];
+        let not = ["call state", "call output", "call journal", "call device"];
         let calls = self
             .listed
             .iter()

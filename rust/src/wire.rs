@@ -154,7 +154,7 @@ pub fn parse(message: &[u8]) -> Option<Message<'_>> {
     }
 }
 
-/// Whether the id's last byte is its only zero.
-fn ends_at_only_zero(id: &[u8]) -> bool {
-    id.iter().position(|byte| *byte == 0) == Some(id.len() - 1)
+/// Whether an id or name has its only zero at its end.
+pub fn ends_at_only_zero(name: &[u8]) -> bool {
+    matches!(name.split_last(), Some((0, before)) if !before.contains(&0))
 }

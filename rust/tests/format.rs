@@ -95,7 +95,7 @@ fn sizes() {
 
 #[test]
 fn show_lines() {
-    let input = "receive 1 000000000000000400010000\noffer 1 1\n\
+    let input = "receive 1 000000000000000400010000\noffer 1 2\n\
                  receive 1 000000040000000a00000000000000020000\n\
                  show 1 000000090000000a0000000000000002AbCd\nshow 1\nshow 9 00\n\
                  receive 1 000000090000000a0000000000000002abcd\n";

@@ -2,15 +2,16 @@
 
 use independent::comparing::Tally;
 use independent::counts::Counts;
+use independent::device::service::{STATUS, UNCONFIGURE};
 use independent::generate::generate;
-use independent::lines::{answer, Call, Feed, Line};
+use independent::lines::{answer, Feed, Line};
 use independent::{build, memory, Pair};
 
 /// How many calls a text has that the generator counts.
 fn calls(text: &[u8]) -> usize {
     text.split(|byte| *byte == b'\n')
         .filter(|line| match Line::read(line) {
-            Line::Call(call) => !matches!(call, Call::State | Call::Output(_) | Call::Journal(_)),
+            Line::Call(call) => call.is_counted(),
             _ => false,
         })
         .count()
@@ -150,6 +151,46 @@ fn counts_of_repeats() {
             "repeat in QUERY apart",
         ]
     );
+}
+
+#[test]
+fn counts_of_devices() {
+    let lists = "device 1 1 1 6100\ndevice 1\nsetup x\nsetup\ndevice 1 2 0 00\nsetup\n";
+    let met = [
+        "device list of 1",
+        "device list refused configured",
+        "device lines kept by a bad setup line",
+        "device line bad missing field",
+    ];
+    let mut names = reached(lists, "device l");
+    names.sort();
+    let mut expected = met.to_vec();
+    expected.sort();
+    assert_eq!(names, expected);
+    let mut list = "device 1 1 1 6100\nsetup\n".to_string() + &receive(&build::init_req(1, 0));
+    list += "offer 0 1\n";
+    list += &receive(&build::reg_ack(2, 0));
+    for data in [
+        build::device(1, 1, UNCONFIGURE, b"a\0"),
+        build::device(1, 2, STATUS, b"a\0"),
+        build::device(0, 1, STATUS, b"a"),
+        vec![0; 5],
+    ] {
+        list += &receive(&build::data(2, &data));
+    }
+    list += "drain 256\n";
+    for name in [
+        "device UNCONFIGURE busy configured -> BLOCKED",
+        "device unknown STATUS name listed",
+        "device bad form no zero",
+        "device data of bytes 5",
+        "device number equal",
+        "device number lower",
+        "entry code 18/2",
+        "entry code 10 of service 1 1",
+    ] {
+        assert_eq!(reached(&list, name), [name]);
+    }
 }
 
 #[test]

@@ -175,7 +175,7 @@ fn only_its_own_reg_ack_begins_anew() {
         assert!(!accepts(&mut bench, 7));
     }
     // Another service, and `dr-mem` on another channel.
-    bench.offer(2, 1).unwrap();
+    bench.offer(2, 2).unwrap();
     let other = bench.state.last;
     bench.receive(2, &build::reg_ack(other, 0)).unwrap();
     assert!(!accepts(&mut bench, 7));

@@ -6,7 +6,6 @@ use independent::generate::generate;
 use independent::lines::{Call, Host, Line};
 use independent::reader::{output, read};
 use independent::saved::write_long;
-use independent::setup;
 use std::io::{self, Read};
 
 /// The fields of an entry after its number: kind, channel, service, record,
@@ -207,7 +206,7 @@ const KINDS: [(&[Entry], Entry, &str); 25] = [
     (&MEMORY, [7, 2, 0, 0, 0, 0, 0], "cs"),
     (&VIO, [8, 2, 1, 0, 0, 0, 0], "cs"),
     (&MEMORY, [9, 2, 0, 0, 0, 0, 1], "cw"),
-    (&MEMORY, [10, 2, 0, 0, 1, 0, 9], "cow"),
+    (&MEMORY, [10, 2, 0, 0, 1, 0, 9], "csow"),
     (&MEMORY, [11, 2, 0, 0, 0, 0, 0b1101], "cw"),
     (&MEMORY, BEGIN, "cnw"),
     (&REMOVAL, [13, 2, 0, 0, 0, 0, 10], "cw"),
@@ -277,6 +276,17 @@ fn a_ready_channel() {
         let service = matches!(entry[0], 5..=8 | 10..=13);
         assert_eq!(is_good(&again, *entry), !service, "{entry:?}");
     }
+}
+
+#[test]
+fn kind_10_names_its_service() {
+    // Registered, offered or idle there.
+    let answered = |service| [10, 2, service, 0, 3, 0, u64::MAX];
+    assert!(is_good(&VIO, answered(0)) && is_good(&VIO, answered(1)));
+    assert!(!is_good(&VIO, answered(2)) && !is_good(&VIO, answered(3)));
+    assert!(!is_good(&VIO[..4], answered(1)) && !is_good(&MEMORY, answered(1)));
+    let shutdown = [READY, [4, 2, 2, 0, 0, 0, 0], [5, 2, 2, 0, 0, 0, 2]];
+    assert!(is_good(&shutdown, answered(2)) && !is_good(&shutdown, answered(0)));
 }
 
 #[test]
@@ -461,7 +471,10 @@ impl Follower {
         let mut answer = Vec::new();
         self.host.perform(call, &mut answer);
         if let Call::Setup(words) = call {
-            self.words = setup(words).map_or(Vec::new(), |_| words.clone());
+            self.words.clear();
+            if answer.starts_with(b"setup accepted") {
+                self.words.extend(words);
+            }
             self.entries.clear();
         }
         while (self.entries.len() as u64) < self.host.state.last {
@@ -471,11 +484,13 @@ impl Follower {
         String::from_utf8(answer).unwrap()
     }
 
-    /// The file is good and shows the state, except for its removal.
+    /// The file is good and shows the state, except for its devices and its
+    /// removal.
     fn check(&mut self) {
         let state = self.call(&Call::State);
         let lines = state.split_inclusive('\n');
-        let expected: String = lines.filter(|line| !line.starts_with("removal")).collect();
+        let shown = |line: &&str| !line.starts_with("removal") && !line.starts_with("device");
+        let expected: String = lines.filter(shown).collect();
         assert_eq!(print(&file(&self.words, &self.entries)), expected);
     }
 }

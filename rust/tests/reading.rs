@@ -12,6 +12,7 @@ use independent::{setup, Channel, Service, State};
 struct Reading {
     channels: [Channel; 4],
     configured: Vec<bool>,
+    devices: Vec<bool>,
     /// Cancelled, record and pages.
     removal: Option<(bool, u64, u64)>,
 }
@@ -20,9 +21,11 @@ impl Reading {
     /// The parts of a state that reading gives back.
     fn of(state: &State) -> Reading {
         let blocks = state.blocks.listed().iter();
+        let devices = state.devices.listed().iter();
         Reading {
             channels: state.channels,
             configured: blocks.map(|block| block.configured).collect(),
+            devices: devices.map(|device| device.configured).collect(),
             removal: state.removal.map(|removal| {
                 (
                     removal.cancelled,
@@ -55,6 +58,7 @@ impl Reading {
             12 => self.removal = Some((false, 0, 0)),
             kind @ 13..=15 => self.removal_entry(kind, code, count, second),
             16 => self.removal = None,
+            18 => self.devices[count as usize] = second == 1,
             kind => assert!([8, 9, 10, 17].contains(&kind)),
         }
     }
@@ -85,11 +89,12 @@ struct Follower {
 impl Follower {
     fn call(&mut self, call: &Call) {
         let shown = self.reading.channels;
+        let devices = self.host.devices.clone();
         let mut answer = Vec::new();
         self.host.perform(call, &mut answer);
         let answer = String::from_utf8(answer).unwrap();
         if let Call::Setup(words) = call {
-            self.reading = Reading::of(&setup(words).unwrap_or_default());
+            self.reading = Reading::of(&setup(words, &devices).unwrap_or_default());
             (self.read, self.drained) = (0, 0);
         }
         for line in answer.lines().filter(|line| line.starts_with("entry ")) {
@@ -104,13 +109,14 @@ impl Follower {
             let [first, second] = self.host.entry(self.read);
             assert_eq!(first >> 32, self.read);
             self.reading.entry(first, second);
-            self.reached(call, first >> 27 & 31, &shown);
+            self.reached(call, first, &shown);
         }
         assert_eq!(self.reading, Reading::of(state));
     }
 
     /// Data reaches a service when its handle was registered there.
-    fn reached(&self, call: &Call, kind: u64, shown: &[Channel; 4]) {
+    fn reached(&self, call: &Call, first: u64, shown: &[Channel; 4]) {
+        let (kind, service) = (first >> 27 & 31, first >> 23 & 3);
         let Call::Receive(channel, message) = call else {
             return;
         };
@@ -118,7 +124,8 @@ impl Follower {
             return;
         };
         match shown[*channel as usize].registered(handle) {
-            Some(0) => assert!((10..=13).contains(&kind)),
+            Some(0) => assert!((10..=13).contains(&kind) && service == 0),
+            Some(1) => assert!([(18, 0), (10, 1)].contains(&(kind, service))),
             Some(_) => assert_eq!(kind, 8),
             None => assert!(kind == 9 || kind == 2),
         }

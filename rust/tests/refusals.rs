@@ -166,20 +166,20 @@ const BAD: [&[u64]; 18] = [
 #[test]
 fn block_lists() {
     for list in GOOD {
-        assert!(setup(list).is_ok(), "{list:?}");
+        assert!(setup(list, &[]).is_ok(), "{list:?}");
     }
     for list in BAD {
-        assert_eq!(setup(list), Err(7), "{list:?}");
+        assert_eq!(setup(list, &[]), Err(7), "{list:?}");
     }
     let many =
         |count: u64| -> Vec<u64> { (0..count).flat_map(|at| [at * 8192, 1, 0, 0, 1]).collect() };
-    assert!(setup(&many(16)).is_ok());
-    assert_eq!(setup(&many(17)), Err(7));
+    assert!(setup(&many(16), &[]).is_ok());
+    assert_eq!(setup(&many(17), &[]), Err(7));
 }
 
 #[test]
 fn setup_leaves_everything_idle() {
-    let state = setup(&BLOCK_LIST).unwrap();
+    let state = setup(&BLOCK_LIST, &[]).unwrap();
     assert_eq!(state.channels, [Channel::CLOSED; 4]);
     assert_eq!(
         (state.removal, state.last, state.held, state.blocks.count),
@@ -245,7 +245,7 @@ fn unsound_states() {
     let message = build::data(3, b"abc");
     for (number, spoil) in SPOILS.iter().enumerate() {
         let mut bench = with_removal();
-        bench.state.channels[2].services[1] = Service::Registered {
+        bench.state.channels[2].services[2] = Service::Registered {
             handle: 3,
             minor: 0,
         };

@@ -3,11 +3,14 @@
 //! 1 on the first difference, and if a call never had an answer that it can
 //! have.
 
-use bench::proved::{self, Words};
-use bench::states::call::{Call, Lent, CALLS};
+use bench::proved::Words;
+use bench::states::agents::{answer, call_independent, call_proved, Answer};
+use bench::states::call::{Call, Lent};
 use bench::states::change::change;
+use bench::states::counts::Counts;
 use bench::states::make;
-use bench::states::words::{fill_free, meant, words_of};
+use bench::states::words::{devices_after, devices_in, fill_free, meant, spoil_mark, words_of};
+use independent::device::DEVICE_WORDS;
 use independent::generate::random::Random;
 use independent::{wire, State};
 use std::fmt::Debug;
@@ -18,17 +21,11 @@ use std::process::ExitCode;
 struct Case {
     state: State,
     words: Words,
+    /// Whether the words have a mark that is not 0 or 1, which the other form
+    /// does not have.
+    spoilt: bool,
     call: Call,
     lent: Lent,
-}
-
-/// The refusal number, 0 if accepted; the length of the reply or of show's
-/// part; work's pages or drain's entries.
-#[derive(Clone, Copy, Debug, PartialEq)]
-struct Answer {
-    refusal: u64,
-    length: usize,
-    count: u64,
 }
 
 /// A call's answer and what it left.
@@ -38,85 +35,10 @@ struct Outcome<S> {
     lent: Lent,
 }
 
-/// The refusal number; the length; the pages or entries.
-fn answer(refusal: u64, length: usize, count: u64) -> Answer {
-    Answer {
-        refusal,
-        length,
-        count,
-    }
-}
-
-impl From<proved::Answer> for Answer {
-    fn from(given: proved::Answer) -> Answer {
-        answer(given.refusal, given.length, 0)
-    }
-}
-
-impl From<Result<usize, u64>> for Answer {
-    fn from(given: Result<usize, u64>) -> Answer {
-        match given {
-            Ok(length) => answer(0, length, 0),
-            Err(refusal) => answer(refusal, 0, 0),
-        }
-    }
-}
-
-fn call_proved(state: &mut Words, call: &Call, lent: &mut Lent) -> Answer {
-    let (journal, out, run) = lent.parts();
-    match call {
-        Call::Receive(channel, message) => {
-            proved::receive(state, *channel, message, journal, out).into()
-        }
-        Call::Offer(channel, service) => {
-            proved::offer(state, *channel, *service, journal, out).into()
-        }
-        Call::Withdraw(channel, service) => {
-            proved::withdraw(state, *channel, *service, journal, out).into()
-        }
-        Call::Close(channel) => proved::close(state, *channel, journal, out).into(),
-        Call::Work(budget) => {
-            let worked = proved::work(state, *budget, journal, out);
-            answer(worked.refusal, worked.length, worked.pages)
-        }
-        Call::Drain => {
-            let drained = proved::drain(state, journal, run);
-            answer(drained.refusal, 0, drained.entries as u64)
-        }
-        Call::Show(channel, message) => answer(0, proved::show(state, *channel, message), 0),
-    }
-}
-
-fn call_independent(state: &mut State, call: &Call, lent: &mut Lent) -> Answer {
-    let (journal, out, run) = lent.parts();
-    match call {
-        Call::Receive(channel, message) => {
-            independent::receive(state, *channel, message, journal, out).into()
-        }
-        Call::Offer(channel, service) => {
-            independent::offer(state, *channel, *service, journal, out).into()
-        }
-        Call::Withdraw(channel, service) => {
-            independent::withdraw(state, *channel, *service, journal, out).into()
-        }
-        Call::Close(channel) => independent::close(state, *channel, journal, out).into(),
-        Call::Work(budget) => match independent::work(state, *budget, journal, out) {
-            Ok(worked) => answer(0, worked.length, worked.pages),
-            Err(refusal) => answer(refusal, 0, 0),
-        },
-        Call::Drain => match independent::drain(state, journal, run) {
-            Ok(entries) => answer(0, 0, entries as u64),
-            Err(refusal) => answer(refusal, 0, 0),
-        },
-        Call::Show(channel, message) => {
-            answer(0, independent::show(state, *channel, message).len(), 0)
-        }
-    }
-}
-
 impl Case {
     /// A sound state, in two thirds of the cases with one or two changes. In
-    /// half of the cases the words that have no meaning in it are random.
+    /// half of the cases the words that have no meaning in it are random. A few
+    /// have a device with a mark past 1.
     fn random(random: &mut Random) -> Case {
         let mut state = make::sound(random);
         for _ in 0..random.pick(&[0, 0, 0, 1, 1, 1, 1, 2, 2]) {
@@ -127,8 +49,13 @@ impl Case {
             let shift = random.below(64);
             fill_free(&mut words, || random.next() >> shift);
         }
+        let device = random.below(32);
+        let value = random.pick(&[2, 3, 1 << 32, 1 << 32 | 1, u64::MAX]);
+        let spoilt =
+            random.once_in(40) && spoil_mark(&mut words, device, random.pick(&[1, 2]), value);
         Case {
             words,
+            spoilt,
             call: Call::random(random, &state),
             lent: Lent::random(random, &state),
             state,
@@ -145,11 +72,54 @@ impl Case {
         }
     }
 
+    /// What the independent agent does; for words that it cannot have, what 01
+    /// says of a state that is not sound.
+    fn expected(&self) -> Outcome<State> {
+        if !self.is_beyond() {
+            return self.run(self.state, call_independent);
+        }
+        let refusal = match self.call {
+            Call::Show(..) => 0,
+            _ => 8,
+        };
+        Outcome {
+            answer: answer(refusal, 0, 0),
+            state: self.state,
+            lent: self.lent.clone(),
+        }
+    }
+
+    fn is_setup(&self) -> bool {
+        matches!(self.call, Call::Setup(..))
+    }
+
+    /// Whether the call is given words that the independent agent cannot have.
+    fn is_beyond(&self) -> bool {
+        self.spoilt && !self.is_setup()
+    }
+
+    /// Whether the words after the call are those of the other state, and of
+    /// devices also those without a meaning: as they were given to the call.
+    fn states_agree(&self, ours: &Words, theirs: &State) -> bool {
+        if self.is_beyond() {
+            return *ours == self.words;
+        }
+        let devices = match &self.call {
+            Call::Setup(_, devices) => {
+                let listed = &devices[..theirs.devices.count * DEVICE_WORDS];
+                devices_in(ours)[1..].starts_with(listed)
+            }
+            _ => devices_in(ours) == devices_after(&self.words, theirs),
+        };
+        devices && meant(*ours) == meant(words_of(theirs))
+    }
+
     /// What differs between the two, or from what 01 says of refusals and of
-    /// show; none if nothing does. A refused call must leave all 199 words as
-    /// they were; after an accepted one those without a meaning count as 0.
+    /// show; none if nothing does. A refused call other than setup must leave
+    /// all words as they were; after an accepted one those without a meaning
+    /// count as 0, but for devices.
     fn difference(&self, ours: &Outcome<Words>, theirs: &Outcome<State>) -> Option<&'static str> {
-        let refused = ours.answer.refusal != 0;
+        let kept = ours.answer.refusal != 0 && !self.is_setup();
         let given = (&self.words, &self.state, &self.lent);
         let tests = [
             (ours.answer == theirs.answer, "the answers differ"),
@@ -160,11 +130,11 @@ impl Case {
             (ours.lent.output == theirs.lent.output, "the outputs differ"),
             (ours.lent.run == theirs.lent.run, "the runs differ"),
             (
-                meant(ours.state) == meant(words_of(&theirs.state)),
+                self.states_agree(&ours.state, &theirs.state),
                 "the states differ",
             ),
             (
-                !refused || given == (&ours.state, &theirs.state, &ours.lent),
+                !kept || given == (&ours.state, &theirs.state, &ours.lent),
                 "a refused call changed something",
             ),
             (self.part_is_right(), "show's part is not from byte 16 on"),
@@ -194,11 +164,11 @@ impl Case {
     }
 
     /// Compares the agents; none, after a report, if they differ.
-    fn compare(&self) -> Option<Answer> {
+    fn compare(&self) -> Option<(Answer, Lent)> {
         let ours = self.run(self.words, call_proved);
-        let theirs = self.run(self.state, call_independent);
+        let theirs = self.expected();
         let Some(name) = self.difference(&ours, &theirs) else {
-            return Some(ours.answer);
+            return Some((ours.answer, ours.lent));
         };
         println!("{name}");
         self.print();
@@ -222,63 +192,13 @@ fn print_unlike<T: Debug + PartialEq>(name: &str, ours: &[T], theirs: &[T]) {
     }
 }
 
-/// How many states were sound and unsound, the answers of each call by refusal
-/// number, and the parts of show that were not empty.
-#[derive(Default)]
-struct Counts {
-    sound: u64,
-    unsound: u64,
-    answers: [[u64; 9]; CALLS.len()],
-    parts: u64,
-}
-
-impl Counts {
-    fn add(&mut self, case: &Case, answer: Answer) {
-        match case.state.is_sound() {
-            true => self.sound += 1,
-            false => self.unsound += 1,
-        }
-        self.answers[case.call.number()][answer.refusal as usize] += 1;
-        let part = matches!(case.call, Call::Show(..)) && answer.length > 0;
-        self.parts += u64::from(part);
-    }
-
-    fn print(&self) {
-        println!("states: {} sound, {} unsound", self.sound, self.unsound);
-        print!("{:9}{:>9}", "refusal", "none");
-        (1..=8).for_each(|number| print!("{number:>9}"));
-        println!();
-        for ((name, _), answers) in CALLS.iter().zip(&self.answers) {
-            print!("{name:9}");
-            answers.iter().for_each(|count| print!("{count:>9}"));
-            println!();
-        }
-        println!("parts of show that are not empty: {}", self.parts);
-    }
-
-    /// Whether each call had every answer that it can have, show a part that is
-    /// not empty too; names what is missing.
-    fn are_whole(&self) -> bool {
-        let mut whole = self.parts > 0;
-        if !whole {
-            println!("show never had a part that is not empty");
-        }
-        for ((name, possible), answers) in CALLS.iter().zip(&self.answers) {
-            for number in possible.iter().filter(|number| answers[**number] == 0) {
-                println!("{name} never had answer {number}");
-                whole = false;
-            }
-        }
-        whole
-    }
-}
-
 /// Compares the agents and counts; false, after a report, if they differ or the
 /// independent agent panics.
 fn check(case: &Case, counts: &mut Counts) -> bool {
     let checked = catch_unwind(AssertUnwindSafe(|| {
         let answer = case.compare();
-        answer.map(|answer| counts.add(case, answer))
+        let given = (&case.state, case.spoilt);
+        answer.map(|(answer, lent)| counts.add(given, &case.call, answer, &lent))
     }));
     if checked.is_err() {
         println!("the independent agent panicked");

@@ -1,6 +1,6 @@
 //! A call and what it is lent.
 
-use super::{make, message};
+use super::{lists, make, message};
 use independent::generate::random::Random;
 use independent::state::{JOURNAL_WORDS, OUTPUT_BYTES};
 use independent::State;
@@ -14,11 +14,12 @@ pub enum Call {
     Work(u64),
     Drain,
     Show(u64, Vec<u8>),
+    Setup(Vec<u64>, Vec<u64>),
 }
 
 /// The calls by name, and the refusal numbers that each can have; 0 is
 /// acceptance.
-pub const CALLS: [(&str, &[usize]); 7] = [
+pub const CALLS: [(&str, &[usize]); 8] = [
     ("receive", &[0, 1, 2, 3, 4, 5, 8]),
     ("offer", &[0, 1, 2, 3, 4, 5, 6, 8]),
     ("withdraw", &[0, 1, 2, 3, 4, 5, 6, 8]),
@@ -26,6 +27,7 @@ pub const CALLS: [(&str, &[usize]); 7] = [
     ("work", &[0, 1, 2, 3, 4, 5, 6, 8]),
     ("drain", &[0, 1, 8]),
     ("show", &[0]),
+    ("setup", &[0, 7]),
 ];
 
 impl Call {
@@ -39,6 +41,7 @@ impl Call {
             Call::Work(..) => 4,
             Call::Drain => 5,
             Call::Show(..) => 6,
+            Call::Setup(..) => 7,
         }
     }
 
@@ -46,9 +49,17 @@ impl Call {
     pub fn random(random: &mut Random, state: &State) -> Call {
         let channel = place(random);
         let service = place(random);
-        match random.below(20) {
+        match random.below(26) {
+            22.. => {
+                let channel = channel_of(random, state, 1).unwrap_or(channel);
+                Call::Receive(channel, message::for_device(random, state, channel))
+            }
+            20 | 21 => {
+                let (blocks, devices) = lists::any(random);
+                Call::Setup(blocks, devices)
+            }
             0..=8 => {
-                let channel = answering(random, state).unwrap_or(channel);
+                let channel = channel_of(random, state, 0).unwrap_or(channel);
                 Call::Receive(channel, message::any(random, state, channel))
             }
             9 | 10 => Call::Offer(channel, service),
@@ -69,9 +80,9 @@ fn place(random: &mut Random) -> u64 {
     }
 }
 
-/// Mostly a channel on which service 0 is live, if there is one.
-fn answering(random: &mut Random, state: &State) -> Option<u64> {
-    let live = |channel: &u64| state.channels[*channel as usize].services[0].handle();
+/// Mostly a channel on which the service is live, if there is one.
+fn channel_of(random: &mut Random, state: &State, service: usize) -> Option<u64> {
+    let live = |channel: &u64| state.channels[*channel as usize].services[service].handle();
     let channels: Vec<u64> = (0..4).filter(|channel| live(channel).is_some()).collect();
     (!channels.is_empty() && !random.once_in(3)).then(|| random.pick(&channels))
 }

@@ -1,5 +1,6 @@
 //! Changes of one thing in a state to a boundary value or just past it.
 
+use super::devices;
 use super::make::{self, end_of};
 use independent::block::{MAX_BLOCKS, MAX_END, MAX_PAGES, PAGE};
 use independent::generate::random::Random;
@@ -9,7 +10,8 @@ use independent::{Block, Removal, Service, State};
 
 /// Changes one thing; the state may stay sound.
 pub fn change(random: &mut Random, state: &mut State) {
-    match random.below(20) {
+    match random.below(28) {
+        20.. => devices::change(random, &mut state.devices),
         0..=5 => block(random, state),
         6 => block_count(random, state),
         7 => swap_blocks(random, state),

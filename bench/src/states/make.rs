@@ -1,5 +1,6 @@
 //! Sound states.
 
+use super::devices;
 use independent::block::{MAX_BLOCKS, MAX_END, MAX_PAGES, PAGE};
 use independent::generate::random::Random;
 use independent::removal::MAX_RECORDS;
@@ -10,6 +11,7 @@ use independent::{Block, Blocks, Pair, Removal, Service, Settled, State};
 pub fn sound(random: &mut Random) -> State {
     let mut state = State {
         blocks: blocks(random),
+        devices: devices::sound(random),
         last: last(random),
         ..State::default()
     };

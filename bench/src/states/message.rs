@@ -1,6 +1,6 @@
 //! Messages for a state, well and badly formed.
 
-use super::make;
+use super::{devices, make};
 use independent::generate::random::Random;
 use independent::state::State;
 use independent::{build, memory, wire, Service};
@@ -24,6 +24,18 @@ pub fn any(random: &mut Random, state: &State, channel: u64) -> Vec<u8> {
             build::data(handle, &memory_message(random, state))
         }
     };
+    if random.once_in(12) {
+        spoil(random, &mut message);
+    }
+    message
+}
+
+/// A device request for `channel`.
+pub fn for_device(random: &mut Random, state: &State, channel: u64) -> Vec<u8> {
+    let handle = handle(random, state, channel);
+    let own = service_handle(state, channel, 1).unwrap_or(handle);
+    let handle = random.pick(&[own, own, own, own, own, handle]);
+    let mut message = build::data(handle, &devices::message(random, &state.devices));
     if random.once_in(12) {
         spoil(random, &mut message);
     }

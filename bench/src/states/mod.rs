@@ -1,7 +1,12 @@
 //! Random states, sound and unsound, and a random call on each.
 
+pub mod agents;
 pub mod call;
 pub mod change;
+pub mod counts;
+pub mod defects;
+pub mod devices;
+mod lists;
 pub mod make;
 mod message;
 pub mod words;

@@ -3,6 +3,7 @@
 
 use crate::proved::Words;
 use independent::block::{BLOCK_WORDS, MAX_BLOCKS};
+use independent::device::{DEVICE_WORDS, MAX_DEVICES, MAX_NAME};
 use independent::removal::MAX_RECORDS;
 use independent::state::{CHANNELS, SERVICES};
 use independent::{Block, Removal, Service, Settled, State};
@@ -24,7 +25,11 @@ const SIZE: usize = ADDRESS + MAX_RECORDS;
 const RESULT: usize = SIZE + MAX_RECORDS;
 const NUMBERED: usize = RESULT + MAX_RECORDS;
 const NUMBER_WORDS: usize = 2;
-const END: usize = NUMBERED + CHANNELS * NUMBER_WORDS;
+const DEVICE_COUNT: usize = NUMBERED + CHANNELS * NUMBER_WORDS;
+const DEVICE: usize = DEVICE_COUNT + 1;
+const NAME_BYTES: usize = 3;
+const NAME: usize = 4;
+const END: usize = DEVICE + MAX_DEVICES * DEVICE_WORDS;
 
 fn service_words(service: &Service) -> [u64; SERVICE_WORDS] {
     match *service {
@@ -91,7 +96,48 @@ pub fn words_of(state: &State) -> Words {
         let highest = highest.map_or([0, 0], |highest| [1, highest]);
         words[at..at + NUMBER_WORDS].copy_from_slice(&highest);
     }
+    words[DEVICE_COUNT] = state.devices.count as u64;
+    for (number, device) in state.devices.list.iter().enumerate() {
+        let at = DEVICE + number * DEVICE_WORDS;
+        words[at..at + DEVICE_WORDS].copy_from_slice(&device.words());
+    }
     words
+}
+
+/// The block list and the device list in a state's words, as setup takes them.
+pub fn lists_of(words: &Words) -> (Vec<u64>, Vec<u64>) {
+    let blocks = words[BLOCK_COUNT].min(MAX_BLOCKS as u64) as usize;
+    let devices = words[DEVICE_COUNT].min(MAX_DEVICES as u64) as usize;
+    let blocks = &words[BLOCK..BLOCK + blocks * BLOCK_WORDS];
+    let devices = &words[DEVICE..DEVICE + devices * DEVICE_WORDS];
+    (blocks.to_vec(), devices.to_vec())
+}
+
+/// Gives a mark of a device a value that the independent agent's form does not
+/// have; false if there is no device.
+pub fn spoil_mark(words: &mut Words, device: u64, mark: usize, value: u64) -> bool {
+    let count = words[DEVICE_COUNT].min(MAX_DEVICES as u64);
+    if count == 0 {
+        return false;
+    }
+    words[DEVICE + (device % count) as usize * DEVICE_WORDS + mark] = value;
+    true
+}
+
+/// The words of devices after a call, those without a meaning too: as they
+/// were given, but for the states of the devices that count.
+pub fn devices_after(given: &Words, state: &State) -> Vec<u64> {
+    let mut words = given[DEVICE_COUNT..].to_vec();
+    let listed = state.devices.list.iter().take(state.devices.count);
+    for (number, device) in listed.enumerate() {
+        words[DEVICE - DEVICE_COUNT + number * DEVICE_WORDS + 1] = device.configured.into();
+    }
+    words
+}
+
+/// The words of devices in a state.
+pub fn devices_in(words: &Words) -> &[u64] {
+    &words[DEVICE_COUNT..]
 }
 
 /// The words of a channel's request numbers that say nothing: both while the
@@ -117,16 +163,26 @@ fn free_of_service(words: &Words, stage: usize) -> Range<usize> {
     }
 }
 
-/// The words that 01 gives no meaning in this state: those of services, blocks
-/// past the count, a removal's words while none is outstanding, its records
-/// past the count, its results from the position on, and those of request
-/// numbers.
+/// The words after the last of a device's name.
+fn free_of_device(words: &Words, device: usize) -> Range<usize> {
+    let at = DEVICE + device * DEVICE_WORDS;
+    let bytes = words[at + NAME_BYTES].min(MAX_NAME as u64) as usize;
+    at + NAME + bytes.div_ceil(8)..at + DEVICE_WORDS
+}
+
+/// The words that 01 and 02 give no meaning in this state: those of services,
+/// blocks and devices past the count, those past a device's name, a removal's
+/// words while none is outstanding, its records past the count, its results
+/// from the position on, and those of request numbers.
 fn free(words: &Words) -> Vec<Range<usize>> {
     let taken = |word: usize, most: usize| words[word].min(most as u64) as usize;
     let stages = (SERVICE..BLOCK_COUNT).step_by(SERVICE_WORDS);
     let mut ranges: Vec<_> = stages.map(|stage| free_of_service(words, stage)).collect();
     ranges.push(BLOCK + taken(BLOCK_COUNT, MAX_BLOCKS) * BLOCK_WORDS..LAST);
     ranges.extend((0..CHANNELS).map(|channel| free_of_numbers(words, channel)));
+    let devices = taken(DEVICE_COUNT, MAX_DEVICES);
+    ranges.extend((0..devices).map(|device| free_of_device(words, device)));
+    ranges.push(DEVICE + devices * DEVICE_WORDS..END);
     if words[OUTSTANDING] == 0 {
         ranges.push(CANCELLED..NUMBERED);
         return ranges;

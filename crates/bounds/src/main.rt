@@ -10,14 +10,19 @@ use lines::output::Text;
 use model::Answer;
 use model::BLOCK_COUNT_WORD;
 use model::BLOCK_WORDS;
+use model::BUSY_PLACE;
 use model::CANCELLED_WORD;
 use model::CHANNEL_COUNT;
 use model::CHANNEL_WORDS;
 use model::COLLECTED_WORD;
 use model::CONFIGURED_PLACE;
 use model::COUNT_WORD;
+use model::DEVICE_CONFIGURED_PLACE;
+use model::DEVICE_COUNT_WORD;
+use model::DEVICE_WORDS;
 use model::FIRST_ADDRESS_WORD;
 use model::FIRST_BLOCK_WORD;
+use model::FIRST_DEVICE_WORD;
 use model::FIRST_HANDLE_WORD;
 use model::FIRST_MINOR_WORD;
 use model::FIRST_PLACE;
@@ -32,6 +37,8 @@ use model::LAST_WORD;
 use model::MOST_BLOCKS;
 use model::MOST_HELD;
 use model::MOST_RECORDS;
+use model::NAME_BYTES_PLACE;
+use model::NAME_PLACE;
 use model::OFFERED;
 use model::OUTPUT_BYTES;
 use model::OUTSTANDING_WORD;
@@ -62,6 +69,11 @@ const MINOR: usize = FIRST_MINOR_WORD + 2 * CHANNEL_WORDS;
 const FIRST: usize = FIRST_BLOCK_WORD;
 
 const SECOND: usize = FIRST_BLOCK_WORD + BLOCK_WORDS;
+
+// The words of the first device, and the first word of the name `disk`.
+const DEVICE: usize = FIRST_DEVICE_WORD;
+
+const DISK: u64 = 0x6469736b00000000;
 
 // What every word of the journal and every byte of the output holds before a call.
 const WORD: u64 = 7;
@@ -190,7 +202,7 @@ fn drain(before: &State, text: &mut Text, used: &mut usize) {
     }
 }
 
-// Data under handle 3, which the sound state has registered for service 1 on channel 2.
+// Data under handle 3, which the sound state has registered for service 1 on channel 2: that is answered inside, so that it is not shown.
 fn show(before: &State, text: &mut Text, used: &mut usize) {
     let data = b"\x00\x00\x00\x09\x00\x00\x00\x09\x00\x00\x00\x00\x00\x00\x00\x03\x41";
     answers::shown(text, used, agent::show(before, 2, data));
@@ -207,11 +219,27 @@ fn each_call(state: &State, text: &mut Text, used: &mut usize) {
     show(state, text, used);
 }
 
+// Two devices with id 1, `disk` configured and `net0` busy.
+fn two_devices() -> [u64; 2 * DEVICE_WORDS] {
+    let mut words = [0u64; 2 * DEVICE_WORDS];
+    words[0] = 1;
+    words[DEVICE_CONFIGURED_PLACE] = 1;
+    words[NAME_BYTES_PLACE] = 5;
+    words[NAME_PLACE] = DISK;
+    words[DEVICE_WORDS] = 1;
+    words[DEVICE_WORDS + BUSY_PLACE] = 1;
+    words[DEVICE_WORDS + NAME_BYTES_PLACE] = 5;
+    words[DEVICE_WORDS + NAME_PLACE] = 0x6e65743000000000;
+    words
+}
+
 // A state of two blocks, the second unconfigured: channel 2 ready, service 0 registered under handle 2, service 1 under 3, service 2 offered under
-// 4; nine entries numbered and none held; a removal of the first block and then the second, under handle 2, just begun.
+// 4; nine entries numbered and none held; a removal of the first block and then the second, under handle 2, just begun; two devices with id 1, `disk` configured
+// and `net0` busy.
 fn sound_state() -> State {
     let list = [0x10000000u64, 4, 0, 0, 1, 0x20000000, 2, 0, 0, 0];
-    let started = agent::setup(&list);
+    let devices = two_devices();
+    let started = agent::setup(&list, &devices);
     let mut state = started.state;
     state[2] = 1;
     state[STAGE] = REGISTERED;
@@ -337,6 +365,18 @@ fn unread_words(text: &mut Text, used: &mut usize) {
     unread(
         b"# the result of a record that is not settled\n",
         FIRST_RESULT_WORD,
+        text,
+        used,
+    );
+    unread(
+        b"# a word after a device's name\n",
+        DEVICE + NAME_PLACE + 1,
+        text,
+        used,
+    );
+    unread(
+        b"# a third device's name, where two are held\n",
+        DEVICE + 2 * DEVICE_WORDS + NAME_BYTES_PLACE,
         text,
         used,
     );
@@ -467,6 +507,71 @@ fn counts(text: &mut Text, used: &mut usize) {
     );
 }
 
+// Marks and lengths of the first device.
+fn devices(text: &mut Text, used: &mut usize) {
+    changed(b"# 33 devices\n", DEVICE_COUNT_WORD, 33, text, used);
+    changed(
+        b"# a device neither configured nor not\n",
+        DEVICE + DEVICE_CONFIGURED_PLACE,
+        2,
+        text,
+        used,
+    );
+    changed(
+        b"# a device neither busy nor not\n",
+        DEVICE + BUSY_PLACE,
+        2,
+        text,
+        used,
+    );
+    changed(
+        b"# a name of no bytes\n",
+        DEVICE + NAME_BYTES_PLACE,
+        0,
+        text,
+        used,
+    );
+    changed(
+        b"# a name of 257 bytes\n",
+        DEVICE + NAME_BYTES_PLACE,
+        257,
+        text,
+        used,
+    );
+}
+
+// The first device's name, of five bytes with its zero.
+fn names(text: &mut Text, used: &mut usize) {
+    changed(
+        b"# a name without its zero\n",
+        DEVICE + NAME_PLACE,
+        0x6469736b73000000,
+        text,
+        used,
+    );
+    changed(
+        b"# a name with a second zero\n",
+        DEVICE + NAME_PLACE,
+        0x6400736b00000000,
+        text,
+        used,
+    );
+    changed(
+        b"# a byte other than 0 after a name, in its last word\n",
+        DEVICE + NAME_PLACE,
+        DISK + 1,
+        text,
+        used,
+    );
+    changed(
+        b"# an id and name twice\n",
+        DEVICE + DEVICE_WORDS + NAME_PLACE,
+        DISK,
+        text,
+        used,
+    );
+}
+
 fn removals(text: &mut Text, used: &mut usize) {
     changed(
         b"# a removal's channel above 3\n",
@@ -592,6 +697,8 @@ fn main() {
     seventeen_blocks(&mut text, &mut used);
     counts(&mut text, &mut used);
     removals(&mut text, &mut used);
+    devices(&mut text, &mut used);
+    names(&mut text, &mut used);
     last_number(&mut text, &mut used);
     last_number_but_one(&mut text, &mut used);
     unsound_first(&mut text, &mut used);

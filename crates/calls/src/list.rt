@@ -1,6 +1,9 @@
 // The list of calls on standard input, answered on standard output. Input and output go in pieces of up to 65,536 bytes.
 ghost use Rattle.io.specs.Counts.{Counts};
 use crate::answers;
+use crate::given;
+use crate::given::GIVEN_WORDS;
+use crate::given::Given;
 use crate::parsed;
 use crate::parsed::Numbers;
 use libc::STDERR_FILENO;
@@ -42,6 +45,7 @@ struct Place {
 fn call(
     name: &[u8],
     rest: &[u8],
+    given: &mut Given,
     state: &mut State,
     journal: &mut [u64],
     out: &mut [u8],
@@ -72,8 +76,16 @@ fn call(
     if fields::same(name, b"state") {
         return parsed::state(rest, state, text, used);
     }
+    if fields::same(name, b"device") {
+        return parsed::device(rest, given);
+    }
     if fields::same(name, b"setup") {
-        return parsed::setup(rest, state, text, used);
+        let words = given::words_of(given);
+        if !parsed::setup(rest, given, words, state, text, used) {
+            return false;
+        }
+        given::empty(given);
+        return true;
     }
     false
 }
@@ -93,6 +105,7 @@ fn up_to(most: u64, rest: &[u8]) -> Number {
 fn answer(
     line: &[u8],
     place: Place,
+    given: &mut Given,
     state: &mut State,
     journal: &mut [u64],
     text: &mut Text,
@@ -120,6 +133,7 @@ fn answer(
     if !call(
         name,
         rest,
+        given,
         state,
         &mut journal[..words],
         &mut out[..bytes],
@@ -135,6 +149,7 @@ fn answer(
 fn answer_line(
     line: &[u8],
     place: Place,
+    given: &mut Given,
     state: &mut State,
     journal: &mut Journal,
     text: &mut Text,
@@ -151,13 +166,14 @@ fn answer_line(
     if fields::is_blank(&line[..end]) {
         return place;
     }
-    answer(&line[..end], place, state, journal, text, used)
+    answer(&line[..end], place, given, state, journal, text, used)
 }
 
 // A line has ended: it counts, and the next one begins.
 fn end_line(
     place: Place,
     line: &LineBytes,
+    given: &mut Given,
     state: &mut State,
     journal: &mut Journal,
     text: &mut Text,
@@ -165,7 +181,7 @@ fn end_line(
 ) -> Place {
     let mut counted = place;
     counted.lines = std::num::wrapping_add_u64(place.lines, 1);
-    let mut next = answer_line(line, counted, state, journal, text, used);
+    let mut next = answer_line(line, counted, given, state, journal, text, used);
     next.length = 0;
     next
 }
@@ -175,13 +191,14 @@ fn take_byte(
     b: u8,
     place: Place,
     line: &mut LineBytes,
+    given: &mut Given,
     state: &mut State,
     journal: &mut Journal,
     text: &mut Text,
     used: &mut usize,
 ) -> Place {
     if b == b'\n' {
-        return end_line(place, line, state, journal, text, used);
+        return end_line(place, line, given, state, journal, text, used);
     }
     let at = place.length;
     let mut next = place;
@@ -198,6 +215,7 @@ fn take_piece(
     piece: &[u8],
     place: Place,
     line: &mut LineBytes,
+    given: &mut Given,
     state: &mut State,
     journal: &mut Journal,
     text: &mut Text,
@@ -206,7 +224,7 @@ fn take_piece(
     let mut next = place;
     let mut i: usize = 0;
     while i < piece.len() {
-        next = take_byte(piece[i], next, line, state, journal, text, used);
+        next = take_byte(piece[i], next, line, given, state, journal, text, used);
         i += 1;
     }
     next
@@ -229,6 +247,7 @@ pub fn run() {
     let mut text = [0u8; TEXT_BYTES];
     let mut line = [0u8; LONGEST];
     let mut journal = [0u64; MOST_JOURNAL];
+    let mut given = [0u64; GIVEN_WORDS];
     let mut state = [0u64; STATE_WORDS];
     let mut used: usize = 0;
     let mut place = Place {
@@ -247,6 +266,7 @@ pub fn run() {
             &input[..count],
             place,
             &mut line,
+            &mut given,
             &mut state,
             &mut journal,
             &mut text,
@@ -255,6 +275,14 @@ pub fn run() {
         output::flush(&text, &mut used);
         reads -= 1;
     }
-    end_line(place, &line, &mut state, &mut journal, &mut text, &mut used);
+    end_line(
+        place,
+        &line,
+        &mut given,
+        &mut state,
+        &mut journal,
+        &mut text,
+        &mut used,
+    );
     output::flush(&text, &mut used);
 }

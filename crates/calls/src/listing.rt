@@ -1,15 +1,16 @@
-// What a state holds, as text: channels with their live services, blocks, the removal, the last entry number.
+// What a state holds, as text: channels with their live services, blocks, devices, the removal, the last entry number.
 ghost use Prim.Native.Nat.{_<_};
 use lines::output;
 use lines::output::Text;
 use model::CHANNEL_COUNT;
 use model::IDLE;
 use model::MOST_BLOCKS;
+use model::MOST_DEVICES;
 use model::OFFERED;
 use model::SERVICE_COUNT;
 use model::State;
 use model::lower;
-ghost use Rattle.model.specs.Layout.{channelCount, mostBlocks, placeCount};
+ghost use Rattle.model.specs.Layout.{channelCount, mostBlocks, mostDevices, placeCount};
 
 // The service at place k, if it is not idle.
 fn put_service(text: &mut Text, used: &mut usize, state: &State, service: u64, k: usize)
@@ -84,6 +85,27 @@ fn put_blocks(text: &mut Text, used: &mut usize, state: &State) {
     }
 }
 
+fn put_device(text: &mut Text, used: &mut usize, state: &State, i: usize)
+    requires { ⌜ i < mostDevices ⌝ }
+{
+    output::put(text, used, b"device");
+    output::put_decimal(text, used, i as u64);
+    if device_list::configured_of(state, i) == 1 {
+        output::put(text, used, b" configured\n");
+    } else {
+        output::put(text, used, b" unconfigured\n");
+    }
+}
+
+fn put_devices(text: &mut Text, used: &mut usize, state: &State) {
+    let count = lower(device_list::devices_of(state) as u64, MOST_DEVICES as u64) as usize;
+    let mut i: usize = 0;
+    while i < count {
+        put_device(text, used, state, i);
+        i += 1;
+    }
+}
+
 // An outstanding removal: the record at its position, and the pages collected.
 fn put_removal(text: &mut Text, used: &mut usize, state: &State) {
     if !state::is_outstanding(state) {
@@ -104,6 +126,7 @@ fn put_removal(text: &mut Text, used: &mut usize, state: &State) {
 pub(crate) fn put_state(text: &mut Text, used: &mut usize, state: &State) {
     put_channels(text, used, state);
     put_blocks(text, used, state);
+    put_devices(text, used, state);
     put_removal(text, used, state);
     output::put(text, used, b"entries");
     output::put_decimal(text, used, state::last_of(state));

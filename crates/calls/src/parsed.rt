@@ -2,6 +2,8 @@
 // `rest` is the line from the end of its name on: each field begins with its space.
 use crate::answers;
 use crate::answers::RUN_WORDS;
+use crate::given;
+use crate::given::Given;
 use crate::listing;
 use lines::fields;
 use lines::fields::Number;
@@ -13,6 +15,9 @@ use model::State;
 
 // A line of at most 32,768 bytes has no more than 16,384 words and no more than 16,384 bytes.
 const MOST: usize = 16384;
+
+// The longest name of a device that a line can give.
+const LONGEST_NAME: usize = 300;
 
 // Two numbers that a line's fields give (the second 0 where there is one; the count of bytes where there are bytes), or a bad line.
 pub(crate) enum Numbers {
@@ -50,31 +55,63 @@ pub(crate) fn exactly(count: usize, rest: &[u8]) -> Numbers {
     Numbers::Are(two[0], two[1])
 }
 
-// A channel, and the bytes after it at the start of the message.
-fn channel_and_bytes(rest: &[u8], message: &mut [u8]) -> Numbers {
-    if rest.len() == 0 {
-        return Numbers::Bad;
+// As many numbers as there is room for, and the bytes after them, whose count is answered, each at the start of its run.
+fn numbers_and_bytes(rest: &[u8], numbers: &mut [u64], bytes: &mut [u8]) -> Read {
+    let mut at: usize = 0;
+    let mut i: usize = 0;
+    while i < numbers.len() {
+        if rest.len() <= at {
+            return Read::Bad;
+        }
+        let end = fields::end_of(rest, at + 1);
+        let Number::Value(n) = fields::number_in(&rest[at + 1..end]) else {
+            return Read::Bad;
+        };
+        numbers[i] = n;
+        i += 1;
+        at = end;
     }
-    let end = fields::end_of(rest, 1);
-    let Number::Value(channel) = fields::number_in(&rest[1..end]) else {
-        return Numbers::Bad;
-    };
-    if end == rest.len() {
-        return Numbers::Are(channel, 0);
+    if rest.len() <= at {
+        return Read::Count(0);
     }
-    let Read::Count(count) = fields::bytes_in(&rest[end + 1..], message) else {
-        return Numbers::Bad;
-    };
-    Numbers::Are(channel, count as u64)
+    fields::bytes_in(&rest[at + 1..], bytes)
 }
 
-pub(crate) fn setup(rest: &[u8], state: &mut State, text: &mut Text, used: &mut usize) -> bool {
+// A channel, and the bytes after it at the start of the message.
+fn channel_and_bytes(rest: &[u8], message: &mut [u8]) -> Numbers {
+    let mut one = [0u64; 1];
+    let Read::Count(count) = numbers_and_bytes(rest, &mut one, message) else {
+        return Numbers::Bad;
+    };
+    Numbers::Are(one[0], count as u64)
+}
+
+// A device for the next setup: its id, configured, busy and the bytes of its name.
+pub(crate) fn device(rest: &[u8], given: &mut Given) -> bool {
+    let mut numbers = [0u64; 3];
+    let mut name = [0u8; LONGEST_NAME];
+    let Read::Count(count) = numbers_and_bytes(rest, &mut numbers, &mut name) else {
+        return false;
+    };
+    given::add(given, numbers, count, &name)
+}
+
+// The next setup, with the devices given so far: `words` words of those that are lent.
+pub(crate) fn setup(
+    rest: &[u8],
+    given: &[u64],
+    words: usize,
+    state: &mut State,
+    text: &mut Text,
+    used: &mut usize,
+) -> bool {
     let mut list = [0u64; MOST];
     let Read::Count(count) = words_in(rest, &mut list) else {
         return false;
     };
     let end = words_within(count, &list);
-    let started = agent::setup(&list[..end]);
+    let given_end = words_within(words, given);
+    let started = agent::setup(&list[..end], &given[..given_end]);
     let made = started.state;
     *state = made;
     answers::started(text, used, started.refusal);

@@ -16,7 +16,7 @@ use Rattle.model.specs.Choice.{pick, _and_, every, tabulate, joined}
 use Rattle.model.specs.declared.Event.{Event}
 use Rattle.model.specs.declared.Found.{Found}
 use Rattle.model.specs.declared.Found.the-variants.{At, Nowhere}
-use Rattle.model.specs.Layout.{blockAt, mostBlocks, mostRecords, withConfigured}
+use Rattle.model.specs.Layout.{memoryService, blockAt, mostBlocks, mostRecords, withConfigured}
 use Rattle.model.specs.Blocks.{namedBlock}
 use Rattle.model.specs.Search.{BlocksInOrder}
 use Rattle.model.specs.Journal.{codeNone, answeredEvent, configuredEvent}
@@ -106,7 +106,7 @@ module _ (s b out : List ℕ) (c handle request n : ℕ) (p : AllDone) (s′ add
   same-reply : resultsReply s′ handle request address size (p .result) n ≡ configureReply (configuredBy s b n) handle request b n
   same-reply = reply-is s b handle request n p s′ address size few a z k
 
-  pub configure-none : {e : Event} → p .mask ≡ 0 → e ≡ answeredEvent c codeNone request → Handles (answeringConfigure (configuredBy s b n) c handle request b n) out l e s′ out′
+  pub configure-none : {e : Event} → p .mask ≡ 0 → e ≡ answeredEvent c memoryService codeNone request → Handles (answeringConfigure (configuredBy s b n) c handle request b n) out l e s′ out′
   unfolding answeringConfigure answering
   configure-none m notes =
       rw (pick-true _ _ _ (eq-eqb _ _ (sym (k .mask) ∙ m)))

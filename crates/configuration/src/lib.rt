@@ -4,6 +4,7 @@ use model::DR_MEM_RES_NOWORK;
 use model::DR_MEM_RES_OK;
 use model::Found;
 use model::Handled;
+use model::MEMORY_SERVICE;
 use model::MOST_RECORDS;
 use model::State;
 ghost use mathlib.Core.Path.{_≡_};
@@ -118,7 +119,7 @@ pub fn configure(
     if done.mask == 0 {
         return Handled {
             length: length,
-            event: events::answered(channel, events::CODE_NONE, request),
+            event: events::answered(channel, MEMORY_SERVICE as u64, events::CODE_NONE, request),
         };
     }
     Handled {

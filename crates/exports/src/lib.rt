@@ -17,12 +17,12 @@ ghost use Rattle.model.specs.Calls.{shown};
 ghost use lib.ListN.{length, take, drop};
 ghost use mathlib.Core.Path.{_≡_};
 
-// The state is written: that of the list, or that of the empty list where 7 is returned.
+// The state is written: that of the lists, or that of empty lists where 7 is returned.
 #[no_mangle]
-pub extern "C" fn arkelutz_setup(state: &mut State, list: &[u64]) -> u64
-    ensures { λ r. ⌜ SetupPost (record { blocks = now (list .entry) }) (record { refusal = r; state = now (state .exit) }) ⌝ }
+pub extern "C" fn arkelutz_setup(state: &mut State, blocks: &[u64], devices: &[u64]) -> u64
+    ensures { λ r. ⌜ SetupPost (record { blocks = now (blocks .entry); devices = now (devices .entry) }) (record { refusal = r; state = now (state .exit) }) ⌝ }
 {
-    let started = agent::setup(list);
+    let started = agent::setup(blocks, devices);
     let words = started.state;
     *state = words;
     started.refusal

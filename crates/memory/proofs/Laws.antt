@@ -17,7 +17,7 @@ use Rattle.model.specs.declared.Found.the-variants.{At, Nowhere}
 use Rattle.model.specs.declared.Removal.{Removal}
 use Rattle.model.specs.declared.Request.{Request}
 use Rattle.model.specs.declared.Request.the-variants.{Configure, Unconfigure, Query, Status, Cancel, Malformed}
-use Rattle.model.specs.Layout.{removalOf, isSet, memoryHeaderBytes, mostRecords, outputBytes, outstandingOf, pairBytes, replyHeaderBytes, statusBytes, withNumber, withRemoval}
+use Rattle.model.specs.Layout.{memoryService, removalOf, isSet, memoryHeaderBytes, mostRecords, outputBytes, outstandingOf, pairBytes, replyHeaderBytes, statusBytes, withNumber, withRemoval}
 use Rattle.model.specs.Blocks.{namedBlock, mostPages, pageSize}
 use Rattle.model.specs.State.{sound, collectedSound, removalRoom, roomAt, roomOf}
 use Rattle.model.specs.Journal.{codeNone, answeredEvent, cancelledEvent, codeBlocked, stored, begunEvent}
@@ -83,12 +83,12 @@ mark-is s m e f = f ∙ ap (λ (x : Removal). withRemoval s (marked x)) e
 
 -- STATUS and CANCEL.
 module _ (s out : List ℕ) (c handle request : ℕ) {e : Event} {out′ : List ℕ} where
-  pub report-none : isSet (outstandingOf s) ≡ false → e ≡ answeredEvent c codeNone request → out′ ≡ written (memoryReply handle DR-MEM-OK 0 request []) out → Handles (reporting s c handle request) out replyHeaderBytes e s out′
+  pub report-none : isSet (outstandingOf s) ≡ false → e ≡ answeredEvent c memoryService codeNone request → out′ ≡ written (memoryReply handle DR-MEM-OK 0 request []) out → Handles (reporting s c handle request) out replyHeaderBytes e s out′
   unfolding reporting answering pick
   report-none f n w =
       rw f (record { length′ = sym (memory-length handle DR-MEM-OK 0 request []); notes = n; state = refl; output = w })
 
-  pub report-some : (x : Removal) {out₁ : List ℕ} → isSet (outstandingOf s) ≡ true → x ≡ removalOf s → e ≡ answeredEvent c codeNone request → outputBytes ≤ length out → out₁ ≡ sets out 0 (memoryHeader handle DR-MEM-OK 1 request statusBytes) → out′ ≡ sets out₁ replyHeaderBytes (statusRecord x) → Handles (reporting s c handle request) out (replyHeaderBytes + statusBytes) e s out′
+  pub report-some : (x : Removal) {out₁ : List ℕ} → isSet (outstandingOf s) ≡ true → x ≡ removalOf s → e ≡ answeredEvent c memoryService codeNone request → outputBytes ≤ length out → out₁ ≡ sets out 0 (memoryHeader handle DR-MEM-OK 1 request statusBytes) → out′ ≡ sets out₁ replyHeaderBytes (statusRecord x) → Handles (reporting s c handle request) out (replyHeaderBytes + statusBytes) e s out′
   unfolding reporting answering pick
   report-some x t q n room h w =
       rw (t, ← q)
@@ -100,12 +100,12 @@ module _ (s out : List ℕ) (c handle request : ℕ) {e : Event} {out′ : List 
       })
 
   module _ (w : out′ ≡ written (memoryReply handle DR-MEM-OK 0 request []) out) where
-    pub cancel-idle : isSet (outstandingOf s) ≡ false → e ≡ answeredEvent c codeNone request → Handles (cancelling s c handle request) out replyHeaderBytes e s out′
+    pub cancel-idle : isSet (outstandingOf s) ≡ false → e ≡ answeredEvent c memoryService codeNone request → Handles (cancelling s c handle request) out replyHeaderBytes e s out′
     unfolding cancelling answering pick _and_
     cancel-idle f n =
         rw f (record { length′ = sym (memory-length handle DR-MEM-OK 0 request []); notes = n; state = refl; output = w })
 
-    pub cancel-again : (x : Removal) → x ≡ removalOf s → isSet (outstandingOf s) ≡ true → x .cancelled ≡ true → e ≡ answeredEvent c codeNone request → Handles (cancelling s c handle request) out replyHeaderBytes e s out′
+    pub cancel-again : (x : Removal) → x ≡ removalOf s → isSet (outstandingOf s) ≡ true → x .cancelled ≡ true → e ≡ answeredEvent c memoryService codeNone request → Handles (cancelling s c handle request) out replyHeaderBytes e s out′
     unfolding cancelling answering pick _and_
     cancel-again x q t k n =
         rw (t, ← q, k) (record { length′ = sym (memory-length handle DR-MEM-OK 0 request []); notes = n; state = refl; output = w })
@@ -128,7 +128,7 @@ begin-silent s b c handle request n address size p q notes st =
     record { noReply = refl; length′ = refl; notes = notes; state = rw (p, q) at st }
 
 -- every record BLOCKED
-pub block-handles : (s b out : List ℕ) (c handle request n : ℕ) (address size : List ℕ) {l : ℕ} {e : Event} {out′ : List ℕ} → n ≤ mostRecords → address ≡ tabulate (λ i. addrIn b i) mostRecords → size ≡ tabulate (λ i. sizeIn b i) mostRecords → ResultsWritten s handle request address size (replicate mostRecords DR-MEM-RES-BLOCKED) n out l out′ → e ≡ answeredEvent c codeBlocked request → Handles (blocked s c handle request b n) out l e s out′
+pub block-handles : (s b out : List ℕ) (c handle request n : ℕ) (address size : List ℕ) {l : ℕ} {e : Event} {out′ : List ℕ} → n ≤ mostRecords → address ≡ tabulate (λ i. addrIn b i) mostRecords → size ≡ tabulate (λ i. sizeIn b i) mostRecords → ResultsWritten s handle request address size (replicate mostRecords DR-MEM-RES-BLOCKED) n out l out′ → e ≡ answeredEvent c memoryService codeBlocked request → Handles (blocked s c handle request b n) out l e s out′
 unfolding blocked answering
 block-handles s b out c handle request n address size few p q w notes =
     let same =

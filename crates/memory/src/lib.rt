@@ -3,6 +3,7 @@ use model::DR_MEM_ERROR;
 use model::DR_MEM_OK;
 use model::DR_MEM_RES_BLOCKED;
 use model::Handled;
+use model::MEMORY_SERVICE;
 use model::MOST_RECORDS;
 use model::REPLY_HEADER_BYTES;
 use model::Removal;
@@ -30,7 +31,7 @@ fn error(channel: u64, handle: u64, request: u64, out: &mut [u8]) -> Handled
     records::put_bare(out, handle, DR_MEM_ERROR, request);
     Handled {
         length: REPLY_HEADER_BYTES,
-        event: events::answered(channel, events::CODE_ERROR, request),
+        event: events::answered(channel, MEMORY_SERVICE as u64, events::CODE_ERROR, request),
     }
 }
 
@@ -113,7 +114,7 @@ fn report(state: &State, channel: u64, handle: u64, request: u64, out: &mut [u8]
         records::put_bare(out, handle, DR_MEM_OK, request);
         return Handled {
             length: REPLY_HEADER_BYTES,
-            event: events::answered(channel, events::CODE_NONE, request),
+            event: events::answered(channel, MEMORY_SERVICE as u64, events::CODE_NONE, request),
         };
     }
     let m = state::load_removal(state);
@@ -124,7 +125,7 @@ fn report(state: &State, channel: u64, handle: u64, request: u64, out: &mut [u8]
     );
     Handled {
         length: REPLY_HEADER_BYTES + STATUS_BYTES,
-        event: events::answered(channel, events::CODE_NONE, request),
+        event: events::answered(channel, MEMORY_SERVICE as u64, events::CODE_NONE, request),
     }
 }
 
@@ -137,7 +138,7 @@ fn cancel(state: &mut State, channel: u64, handle: u64, request: u64, out: &mut 
     if !state::is_outstanding(state) {
         return Handled {
             length: REPLY_HEADER_BYTES,
-            event: events::answered(channel, events::CODE_NONE, request),
+            event: events::answered(channel, MEMORY_SERVICE as u64, events::CODE_NONE, request),
         };
     }
     let m = state::load_removal(state);
@@ -145,7 +146,7 @@ fn cancel(state: &mut State, channel: u64, handle: u64, request: u64, out: &mut 
     if again {
         return Handled {
             length: REPLY_HEADER_BYTES,
-            event: events::answered(channel, events::CODE_NONE, request),
+            event: events::answered(channel, MEMORY_SERVICE as u64, events::CODE_NONE, request),
         };
     }
     mark(state, m);
@@ -174,7 +175,12 @@ fn block(
     let length = records::put_results(state, handle, request, address, size, result, n, out);
     Handled {
         length: length,
-        event: events::answered(channel, events::CODE_BLOCKED, request),
+        event: events::answered(
+            channel,
+            MEMORY_SERVICE as u64,
+            events::CODE_BLOCKED,
+            request,
+        ),
     }
 }
 

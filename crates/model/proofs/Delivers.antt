@@ -10,7 +10,7 @@ use lib.Seq.{take-append-seam}
 use lib.Dec.{ltb, eqb}
 use borrow.Author.Tests.{eq-eqb, le-leb, ltb-true, ltb-false, eqb-true, eqb-false}
 use Rattle.wire.specs.BigEndian.{bytesOf, written}
-use Rattle.model.specs.Choice.{pick, _and_, firstBelow, isFound, isAt}
+use Rattle.model.specs.Choice.{pick, _and_, _or_, firstBelow, isFound, isAt}
 use Rattle.model.specs.declared.Event.{Event}
 use Rattle.model.specs.declared.Found.{Found}
 use Rattle.model.specs.declared.Found.the-variants.{At, Nowhere}
@@ -19,6 +19,8 @@ use Rattle.model.specs.Journal.{servedBy, answeredEvent, codeNone, dataR
 use Rattle.model.specs.Messages.{Effect, DS-INV-HDL, closing, decoded, decodedByType, dsData, dsMessage, effect, mostPayload, nack, payloadFits, payloadLength, registeredAs, registeredFor, route, wellFormed, wholeMessage}
 use Rattle.model.specs.Memory.{memoryReply, Progress, answeredMemory, answering, answeringConfigure, answeringError, beginning, blocked, cancelling, configureReply, configuredBy, querying, reporting}
 use Rattle.model.specs.Calls.{act, accepted, allowed, dataFor, effectOf, heard, hears, inRange, outcome, pagesOf, receive, receiving, refusalOf, refused, routed}
+use Rattle.model.specs.Devices.{namedDevice}
+use Rattle.model.specs.DeviceRequests.{operationOf, deviceNumber, deviceId, deviceType, deviceName, deviceReply, answeringDevice, askingDevice, deviceFor, answeredDevice}
 use Rattle.model.specs.Reading.{none, viewOf}
 use Rattle.model.specs.Demand3.{sameBytes, Delivers, WellFormedData, reached, replyOf, showsRegistered, showsService}
 use Rattle.model.proofs.Choice.{clash, on-pick, on-first, first-nowhere, both}
@@ -27,7 +29,7 @@ use Rattle.model.proofs.Rules.{Sound, live-rules}
 use Rattle.model.proofs.MemoryEffects.{on-memory, numbered}
 use Rattle.model.proofs.Calls.{Taken, taken, passed, on-act}
 use Rattle.model.proofs.Kept.{noted-is}
-use Rattle.model.specs.Layout.{channelCount, dataHeaderBytes, handleAt, memoryService, placeCount, placeOf, readyAt, serviceCount, stageAt, stageRegistered, stateWords}
+use Rattle.model.specs.Layout.{channelCount, dataHeaderBytes, handleAt, memoryService, deviceService, placeCount, placeOf, readyAt, serviceCount, stageAt, stageRegistered, stateWords}
 
 -- well-formed data is decoded as data under its handle
 pub data-decoded : (m : List ℕ) (handle : ℕ) → WellFormedData m handle → decoded m ≡ Data handle
@@ -107,6 +109,10 @@ memory-no-nack : (handle h type argument request : ℕ) (records : List ℕ) →
 unfolding memoryReply dsData dsMessage nack bytesOf sameBytes _and_
 memory-no-nack handle h type argument request records = refl
 
+device-no-nack : (handle h request result status : ℕ) → sameBytes (deviceReply h request result status) (nack handle DS-INV-HDL) ≡ false
+unfolding deviceReply dsData dsMessage nack bytesOf sameBytes _and_
+device-no-nack handle h request result status = refl
+
 empty-no-nack : (handle : ℕ) → sameBytes [] (nack handle DS-INV-HDL) ≡ false
 unfolding dsMessage nack bytesOf sameBytes
 empty-no-nack handle = refl
@@ -117,14 +123,14 @@ record OfMemory (e : Effect) : Type 0 where
   noNack : (handle : ℕ) → sameBytes (e .reply) (nack handle DS-INV-HDL) ≡ false
 
 -- its events
-served-answered : (c code request : ℕ) → servedBy (answeredEvent c code request) ≡ At memoryService
-unfolding servedBy pick _and_
-served-answered c code request = refl
+served-answered : (c v code request : ℕ) → servedBy (answeredEvent c v code request) ≡ At v
+unfolding servedBy pick _or_
+served-answered c v code request = refl
 
 answering-of : (s : List ℕ) (c code request h type argument request′ : ℕ) (records : List ℕ) → OfMemory (answering s c code request (memoryReply h type argument request′ records))
 unfolding answering
 answering-of s c code request h type argument request′ records = record {
-  serves = served-answered c code request;
+  serves = served-answered c memoryService code request;
   noNack = λ handle. memory-no-nack handle h type argument request′ records;
 }
 
@@ -133,16 +139,16 @@ unfolding answeringConfigure configureReply
 configure-of p c h request b n =
     on-pick OfMemory _ _ _
     (λ e. answering-of (p .state) c _ request h _ n request _)
-    (λ e. record { serves = unfold servedBy pick _and_ in refl; noNack = λ handle. memory-no-nack handle h _ n request _ })
+    (λ e. record { serves = unfold servedBy pick _and_ _or_ in refl; noNack = λ handle. memory-no-nack handle h _ n request _ })
 
 beginning-of : (s : List ℕ) (c h request : ℕ) (b : List ℕ) (n : ℕ) → OfMemory (beginning s c h request b n)
 unfolding beginning
-beginning-of s c h request b n = record { serves = unfold servedBy pick _and_ in refl; noNack = empty-no-nack }
+beginning-of s c h request b n = record { serves = unfold servedBy pick _and_ _or_ in refl; noNack = empty-no-nack }
 
 reporting-of : (s : List ℕ) (c h request : ℕ) → OfMemory (reporting s c h request)
 unfolding reporting answering
 reporting-of s c h request = record {
-  serves = served-answered c codeNone request;
+  serves = served-answered c memoryService codeNone request;
   noNack =
       λ handle.
       on-pick (λ (l : List ℕ). sameBytes l (nack handle DS-INV-HDL) ≡ false) _ _ _
@@ -154,7 +160,7 @@ cancelling-of : (s : List ℕ) (c h request : ℕ) → OfMemory (cancelling s c 
 unfolding cancelling
 cancelling-of s c h request =
     on-pick OfMemory _ _ _
-    (λ e. record { serves = unfold servedBy pick _and_ in refl; noNack = λ handle. memory-no-nack handle h _ _ request _ })
+    (λ e. record { serves = unfold servedBy pick _and_ _or_ in refl; noNack = λ handle. memory-no-nack handle h _ _ request _ })
     (λ e. answering-of s c _ request h _ _ request _)
 
 memory-of : (s : List ℕ) (c h : ℕ) (b : List ℕ) → OfMemory (answeredMemory s c h b)
@@ -178,8 +184,23 @@ module _ (s : List ℕ) (c handle : ℕ) where
   unfolding reachedBy pick
   memory-tells payload = let o = memory-of s c handle payload in rw (o .noNack handle) (o .serves)
 
+  -- every answer of the virtual devices' service tells of service 1, and its reply is no NACK
+  devices-tell : (payload : List ℕ) → reachedBy handle (answeredDevice s c handle payload) ≡ At deviceService
+  unfolding answeredDevice
+  devices-tell payload =
+      on-pick (λ (e : Effect). reachedBy handle e ≡ At deviceService) _ _ _
+      (λ _. named (namedDevice s (deviceId payload) (deviceName payload)))
+      (λ _. unfold answeringDevice in (told _ s _ _ _ (served-answered c deviceService _ _)))
+    where
+      told : (e : Event) (t : List ℕ) (request result status : ℕ) → servedBy e ≡ At deviceService → reachedBy handle (effect e t (deviceReply handle request result status)) ≡ At deviceService
+      told e t request result status q = unfold reachedBy pick in (rw (device-no-nack handle handle request result status) q)
+
+      named : (x : Found) → reachedBy handle (deviceFor s c handle (deviceNumber payload) (operationOf (deviceType payload)) x) ≡ At deviceService
+      named (At i) = unfold deviceFor askingDevice in (told _ _ _ _ _ (unfold servedBy pick _and_ _or_ in refl))
+      named Nowhere = unfold deviceFor answeringDevice in (told _ s _ _ _ (served-answered c deviceService _ _))
+
   host-tells : (v : ℕ) → reachedBy handle (effect (deliveredEvent c v) s []) ≡ At v
-  unfolding reachedBy servedBy pick
+  unfolding reachedBy servedBy pick _or_
   host-tells v = rw (empty-no-nack handle)
 
   none-tells : (e : Event) (reply : List ℕ) → servedBy e ≡ Nowhere → reachedBy handle (effect e s reply) ≡ Nowhere
@@ -189,17 +210,18 @@ module _ (s : List ℕ) (c handle : ℕ) where
   -- data, for the service that is found
   data-tells : (payload : List ℕ) (x : Found) → reachedBy handle (dataFor s c handle payload x) ≡ x
   unfolding dataFor
-  data-tells payload Nowhere = none-tells (dataRefusedEvent c handle) _ (unfold servedBy pick _and_ in refl)
-  data-tells payload (At v) = go (eqb v memoryService) refl
+  data-tells payload Nowhere = none-tells (dataRefusedEvent c handle) _ (unfold servedBy pick _and_ _or_ in refl)
+  data-tells payload (At v) = go (eqb v memoryService) refl (eqb v deviceService) refl
     where
-      go : (b : Bool) → eqb v memoryService ≡ b → reachedBy handle (routed s c handle payload v (route v)) ≡ At v
-      go true z = unfold route pick routed in rw z (memory-tells payload ∙ ap At (sym (eqb-true v memoryService z)))
-      go false z = unfold route pick routed in rw z (host-tells v)
+      go : (b : Bool) → eqb v memoryService ≡ b → (d : Bool) → eqb v deviceService ≡ d → reachedBy handle (routed s c handle payload v (route v)) ≡ At v
+      go true z d y = unfold route pick routed in rw z (memory-tells payload ∙ ap At (sym (eqb-true v memoryService z)))
+      go false z true y = unfold route pick routed in rw (z, y) (devices-tell payload ∙ ap At (sym (eqb-true v deviceService y)))
+      go false z false y = unfold route pick routed in rw (z, y) (host-tells v)
 
 -- a message that closes the channel reaches no service
 closing-tells : (s : List ℕ) (c by handle : ℕ) → reachedBy handle (closing s c by) ≡ Nowhere
 unfolding closing reachedBy servedBy
-closing-tells s c by handle = on-pick (λ x. x ≡ Nowhere) _ _ _ (λ _. refl) (λ _. unfold pick _and_ in refl)
+closing-tells s c by handle = on-pick (λ x. x ≡ Nowhere) _ _ _ (λ _. refl) (λ _. unfold pick _and_ _or_ in refl)
 
 -- data on any channel
 receiving-tells : (s : List ℕ) (g : Sound s) (c handle : ℕ) → c < channelCount → (m : List ℕ) → decoded m ≡ Data handle → reachedBy handle (receiving s c m) ≡ registeredFor s c handle
@@ -228,7 +250,7 @@ memory-answers s c handle m d =
     nowhere e = let z : _≡_ {A = ℕ} 0 1 = cc in omega arith
 
 -- the data clause of an accepted receive
-channel-within : (s j out : List ℕ) (c : ℕ) (m : List ℕ) → refusalOf s j out (receive c m) ≡ 0 → c < channelCount
+pub channel-within : (s j out : List ℕ) (c : ℕ) (m : List ℕ) → refusalOf s j out (receive c m) ≡ 0 → c < channelCount
 unfolding refusalOf inRange
 channel-within s j out c m z =
     ltb-true c channelCount (passed s (length j) (length out) (ltb c channelCount) (allowed s (receive c m)) z .isWithin)

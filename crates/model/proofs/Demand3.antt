@@ -1,6 +1,6 @@
 -- Demand 3 holds: any accepted lists, any first journal, any list of calls that meet their contracts.
 -- Assumes nothing.
-use Prim.Native.Nat.{ℕ}
+use Prim.Native.Nat.{ℕ, _+_}
 use native.Mathlib.Omega.{arith}
 use mathlib.Core.Path.{_≡_, refl, sym, ap, _∙_}
 use mathlib.Core.Bool.{Bool, true, false}
@@ -8,15 +8,24 @@ use mathlib.Core.List.{List, [], _∷_, _++_}
 use Rattle.model.specs.Choice.{pick}
 use Rattle.model.specs.declared.Started.{Started}
 use Rattle.model.specs.Blocks.{Lists, acceptedLists, setupState}
-use Rattle.model.specs.Calls.{Outcome, started}
-use Rattle.model.specs.Reading.{View, reading, setupView}
+use Rattle.model.specs.Calls.{Outcome, started, effectOf}
+use Rattle.model.specs.Layout.{Device, devicesOf, firstDeviceWord, lastOf, withCounts}
+use Rattle.model.specs.Devices.{devicesKeep}
+use Rattle.model.specs.Reading.{View, reading, setupView, devicesShown, setupDevices, readDevices, readingDevices}
+use Rattle.entry.specs.declared.Fields.{Fields}
+use Rattle.entry.specs.Word.{unpacked}
+use Rattle.model.specs.Messages.{Effect}
 use Rattle.model.specs.Demand3.{Run, Done, after, newRun, entries, runs, Demand3}
 use Rattle.model.specs.Contracts.{Meets, AllMeet, SetupPost, OfEveryList}
 use Rattle.model.proofs.Rules.{sound-facts}
 use Rattle.model.proofs.Setup.{starts}
-use Rattle.model.proofs.Lists.{Kept, meets-outcome, on-list}
+use Rattle.model.proofs.Words.{counts-frame}
+use Rattle.model.proofs.Devices.{shown-same, turn-keeps, turn-shown}
+use Rattle.model.proofs.Ring.{fields-back}
+use Rattle.model.proofs.Calls.{Taken, taken}
+use Rattle.model.proofs.Lists.{Kept, AfterCall, grown, shifted, entries-grown, entries-shifted, meets-outcome, on-list}
 use Rattle.model.proofs.Delivers.{delivers}
-use Rattle.model.specs.Journal.{entriesAt}
+use Rattle.model.specs.Journal.{Entry, entriesAt, entryOf}
 
 -- what a part of such a list meets
 pub meets-before : (u : Run) (before later : List Done) → AllMeet u (before ++ later) → AllMeet u before
@@ -73,10 +82,44 @@ at-first l r j e z =
     let state : r .state ≡ setupState l = ap (λ (x : Started). x .state) e ∙ started-state l a in
     record { accepted = a; state = state; kept = rw state (kept-start l j a) }
 
+devices-first : (l : Lists) (r : Started) (j : List ℕ) → SetupPost l r → r .refusal ≡ 0 → readingDevices (setupDevices l) (entries (newRun (r .state) j)) ≡ devicesShown (r .state)
+unfolding entries entriesAt readingDevices
+devices-first l r j e z =
+    let f = at-first l r j e z in
+    rw (f .state) (sym (starts l (f .accepted) .devices))
+
 -- up to each place of a list
 pub kept-meeting : (b : View) (u : Run) (ds : List Done) → AllMeet u ds → Kept b u → Kept b (runs u ds)
 kept-meeting b u ds m k =
     on-list b (λ u. Unit {0}) (λ u k q. record { onAct = λ a out z. tt; onDrain = λ n h. tt; onRefusal = tt }) u ds m k tt .0
+
+-- the entries read back the devices
+abbrev DevicesRead : List Device → Run → Type 0
+DevicesRead ds u = readingDevices ds (entries u) ≡ devicesShown (u .state)
+
+devices-append : (ds : List Device) (es : List Entry) (e : Entry) → readingDevices ds (es ++ e ∷ []) ≡ readDevices (unpacked (e .first)) (e .second) (readingDevices ds es)
+unfolding readingDevices
+devices-append ds [] e = refl
+devices-append ds (x ∷ es) e = devices-append (readDevices (unpacked (x .first)) (x .second) ds) es e
+
+-- the counts are no part of them
+devices-counted : (s : List ℕ) (last held : ℕ) → devicesKeep s firstDeviceWord (devicesOf s) ≡ true → devicesShown (withCounts s last held) ≡ devicesShown s
+devices-counted s last held e = shown-same s (withCounts s last held) (λ j lo hi. counts-frame s last held j (λ p q. omega arith)) e
+
+devices-step : (b : View) (ds : List Device) (u : Run) → Kept b u → DevicesRead ds u → AfterCall (DevicesRead ds) u
+devices-step b ds u k q = record {
+  onAct = λ a out z. grows (effectOf (u .state) a) out (taken (u .state) (u .journal) out a (k .size) z);
+  onDrain = λ n h. rw (entries-shifted b u n h k) (q ∙ sym (unfold shifted in (devices-counted (u .state) _ _ (sound-facts (u .state) (k .sounds) .devices))));
+  onRefusal = q;
+}
+  where
+    grows : (e : Effect) (out : List ℕ) → Taken (u .state) (u .journal) out e → readingDevices ds (entries (grown u e)) ≡ devicesShown (grown u e .state)
+    grows e out t =
+        let old = t .given .facts .devices in
+        let turn = t .good .devices in
+        rw (entries-grown b u e out k t, devices-append, q)
+        (unfold entryOf in (ap (λ (x : Fields). readDevices x (e .event .word) (devicesShown (u .state))) (fields-back (lastOf (u .state) + 1) (e .event) (t .good .entry .range))
+        ∙ sym (unfold grown in (devices-counted (e .state) _ _ (turn-keeps (u .state) (t .given .size) old e turn)) ∙ turn-shown (u .state) (t .given .size) old e (lastOf (u .state) + 1) turn)))
 
 pub demand3 : OfEveryList (λ l s j ds. Demand3 l s j ds (runs (newRun s j) ds))
 demand3 l r j ds e z m =
@@ -89,6 +132,10 @@ demand3 l r j ds e z m =
       held = k .held;
       atMost = sound-facts (runs (newRun (r .state) j) ds .state) (k .sounds) .counts .helds;
       reads = k .listed .reads;
+      readsDevices =
+          on-list (setupView l) (DevicesRead (setupDevices l)) (devices-step (setupView l) (setupDevices l)) (newRun (r .state) j) ds m first
+          (devices-first l r j e z)
+          .1;
       delivers =
           λ before later c handle msg out o q d y.
           let m′ = rw q at m in

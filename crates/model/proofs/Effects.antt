@@ -7,19 +7,20 @@ use mathlib.Core.Path.{_≡_, refl, sym, _∙_}
 use mathlib.Core.Bool.{Bool, true, false}
 use mathlib.Core.List.{List, []}
 use lib.ListN.{length}
-use lib.Dec.{eqb, ltb}
+use lib.Dec.{eqb, leb, ltb}
 use borrow.Author.Tests.{ltb-true, ltb-false, eqb-true, eqb-false, le-leb, not-true}
 use Rattle.model.specs.Choice.{pick, _or_}
 use Rattle.model.specs.declared.Event.{Event}
-use Rattle.model.specs.Layout.{placeOf, blockCountWord, lastWord, outstandingWord, channelCount, handleAt, highestMinor, highestNumber, lastOf, outputBytes, placeCount, readyAt, serviceCount, stageAt, stageIdle, stageOffered, stageRegistered, withChannel, withService, firstNumberedWord, heldOf, heldWord, firstHandleWord, firstStageWord, serviceWords, withNumber}
+use Rattle.model.specs.Layout.{placeOf, blockCountWord, lastWord, outstandingWord, channelCount, handleAt, highestMinor, highestNumber, lastOf, outputBytes, placeCount, readyAt, serviceCount, stageAt, stageIdle, stageOffered, stageRegistered, withChannel, withService, firstNumberedWord, heldOf, heldWord, firstHandleWord, firstStageWord, serviceWords, withNumber, deviceCountWord, stateWords}
 use Rattle.model.specs.State.{serviceSound, ourHandle}
-use Rattle.model.specs.Journal.{fieldsOf, closedEvent, notedEvent, offerRefusedEvent, offeredEvent, readyEvent, registeredEvent, serviceEndedEvent, versionRefusedEvent}
+use Rattle.model.specs.Journal.{fieldsOf, closedEvent, notedEvent, offerRefusedEvent, offeredEvent, readyEvent, registeredEvent, serviceEndedEvent, versionRefusedEvent, kindNoted}
 use Rattle.model.specs.Messages.{Effect, effect, numbersAnew, acknowledged, closing, initiated, liveAs, liveFor, notAcknowledged, noting, offeredAs, offeredFor, offering, unregistered, withIdle, withRegistered, withdrawing, initAck}
 use Rattle.model.specs.Reading.{View, read, stageOf, seeChannel, seeService, viewOf}
 use Rattle.model.specs.Replay.{needed, isIdle, isOffered, isOfferedAs, isLive}
 use Rattle.model.proofs.Choice.{on-pick, on-first, both}
 use Rattle.model.proofs.View.{Shape, Moves, stays, then, turns, counted-view, service-moves, channel-moves}
-use Rattle.model.proofs.Words.{Agree, service-frame, channel-frame, number-frame, number-length}
+use Rattle.model.proofs.Words.{Agree, service-frame, channel-frame, number-frame, number-above, number-length}
+use Rattle.model.proofs.Devices.{DeviceTurn, noneAsked, turn-back}
 use Rattle.model.proofs.Rules.{Given, Base, Removes, Live, live-rules, live-last, service-idle, base-later, removes-later}
 use Rattle.model.proofs.Sounds.{base-service, base-channel, removes-same, sound-same}
 use Rattle.model.proofs.Needs.{ready-needs, closed-needs, version-needs, offered-needs, registered-needs, refused-needs, ended-needs, noted-needs}
@@ -45,6 +46,7 @@ pub record Good (s : List ℕ) (e : Effect) : Type 0 where
   pub turn : Turn s e
   -- what its entry needs is shown
   pub need : neededBy s (e .event)
+  pub devices : DeviceTurn s e
 
 module _ (s : List ℕ) (g : Given s) where
   -- the state itself, for the next number
@@ -61,8 +63,8 @@ module _ (s : List ℕ) (g : Given s) where
   removes-now = removes-later s (lastOf s) (lastOf s + 1) (omega arith) (g .facts .removal)
 
   -- Nothing changed.
-  pub unchanged : (e : Event) (reply : List ℕ) → Fits (lastOf s + 1) e → ((v : View) → readBy s e v ≡ v) → length reply ≤ outputBytes → aside (e .kind) ≡ true → neededBy s e → Good s (effect e s reply)
-  unchanged e reply f r short a n = record {
+  pub unchanged : (e : Event) (reply : List ℕ) → Fits (lastOf s + 1) e → ((v : View) → readBy s e v ≡ v) → length reply ≤ outputBytes → aside (e .kind) ≡ true → leb (e .kind) kindNoted ≡ true → neededBy s e → Good s (effect e s reply)
+  unchanged e reply f r short a d n = record {
     entry = f;
     moves = turns (readBy s e) (stays s) (sym (r (viewOf s)));
     fits = short;
@@ -70,11 +72,12 @@ module _ (s : List ℕ) (g : Given s) where
     removal = removes-now;
     turn = leaves (same-blocks s s (g .facts .base .few) (λ j lo hi. refl)) (same-removal s s (λ j lo hi. refl)) a;
     need = n;
+    devices = noneAsked (λ j lo hi. refl) d;
   }
 
   -- One service changed: it is sound by itself, and where it is live no other live service has its handle.
-  pub service-changed : (e : Event) (reply : List ℕ) (k stage handle minor : ℕ) → k < placeCount → Fits (lastOf s + 1) e → ((v : View) → readBy s e v ≡ seeService k (stageOf stage handle minor) v) → length reply ≤ outputBytes → serviceSound stage handle minor (readyAt s (k / serviceCount)) (lastOf s + 1) ≡ true → ((j : ℕ) → j < placeCount → (j ≡ k → ⊥) → (stageAt s j ≡ stageIdle → ⊥) → (stage ≡ stageIdle → ⊥) → handleAt s j ≡ handle → ⊥) → aside (e .kind) ≡ true → neededBy s e → Good s (effect e (withService s k stage handle minor) reply)
-  service-changed e reply k stage handle minor b f r short ok fresh a n =
+  pub service-changed : (e : Event) (reply : List ℕ) (k stage handle minor : ℕ) → k < placeCount → Fits (lastOf s + 1) e → ((v : View) → readBy s e v ≡ seeService k (stageOf stage handle minor) v) → length reply ≤ outputBytes → serviceSound stage handle minor (readyAt s (k / serviceCount)) (lastOf s + 1) ≡ true → ((j : ℕ) → j < placeCount → (j ≡ k → ⊥) → (stageAt s j ≡ stageIdle → ⊥) → (stage ≡ stageIdle → ⊥) → handleAt s j ≡ handle → ⊥) → aside (e .kind) ≡ true → leb (e .kind) kindNoted ≡ true → neededBy s e → Good s (effect e (withService s k stage handle minor) reply)
+  service-changed e reply k stage handle minor b f r short ok fresh a d n =
       let w = service-frame s k stage handle minor in
       let low : Agree s (withService s k stage handle minor) blockCountWord lastWord = λ j lo hi. w j (λ p q. omega arith) in
       let high : Agree s (withService s k stage handle minor) outstandingWord firstNumberedWord = λ j lo hi. w j (λ p q. omega arith) in
@@ -87,11 +90,12 @@ module _ (s : List ℕ) (g : Given s) where
             removes-same s (withService s k stage handle minor) (lastOf s + 1) (g .facts .base .few) low high removes-now;
         turn = leaves (same-blocks s (withService s k stage handle minor) (g .facts .base .few) low) (same-removal s (withService s k stage handle minor) high) a;
         need = n;
+        devices = noneAsked (λ j lo hi. w j (λ p q. omega arith)) d;
       }
 
   -- A channel closed or made ready, its services idle.
-  pub channel-changed : (e : Event) (reply : List ℕ) (c ready : ℕ) → c < channelCount → ready ≤ 1 → Fits (lastOf s + 1) e → ((v : View) → readBy s e v ≡ seeChannel c (eqb ready 1) v) → length reply ≤ outputBytes → aside (e .kind) ≡ true → neededBy s e → Good s (effect e (withChannel s c ready) reply)
-  channel-changed e reply c ready b small f r short a n =
+  pub channel-changed : (e : Event) (reply : List ℕ) (c ready : ℕ) → c < channelCount → ready ≤ 1 → Fits (lastOf s + 1) e → ((v : View) → readBy s e v ≡ seeChannel c (eqb ready 1) v) → length reply ≤ outputBytes → aside (e .kind) ≡ true → leb (e .kind) kindNoted ≡ true → neededBy s e → Good s (effect e (withChannel s c ready) reply)
+  channel-changed e reply c ready b small f r short a d n =
       let w = channel-frame s c ready in
       let low : Agree s (withChannel s c ready) blockCountWord lastWord = λ j lo hi. w j (λ q. omega arith) (λ p q. omega arith) in
       let high : Agree s (withChannel s c ready) outstandingWord firstNumberedWord = λ j lo hi. w j (λ q. omega arith) (λ p q. omega arith) in
@@ -104,22 +108,24 @@ module _ (s : List ℕ) (g : Given s) where
             removes-same s (withChannel s c ready) (lastOf s + 1) (g .facts .base .few) low high removes-now;
         turn = leaves (same-blocks s (withChannel s c ready) (g .facts .base .few) low) (same-removal s (withChannel s c ready) high) a;
         need = n;
+        devices = noneAsked (λ j lo hi. w j (λ q. omega arith) (λ p q. omega arith)) d;
       }
 
   -- a service becomes idle
-  idled : (e : Event) (reply : List ℕ) (c v : ℕ) → c < channelCount → v < serviceCount → Fits (lastOf s + 1) e → ((x : View) → readBy s e x ≡ seeService (placeOf c v) (stageOf stageIdle 0 0) x) → length reply ≤ outputBytes → aside (e .kind) ≡ true → neededBy s e → Good s (effect e (withIdle s c v) reply)
-  idled e reply c v h l f r short a n =
+  idled : (e : Event) (reply : List ℕ) (c v : ℕ) → c < channelCount → v < serviceCount → Fits (lastOf s + 1) e → ((x : View) → readBy s e x ≡ seeService (placeOf c v) (stageOf stageIdle 0 0) x) → length reply ≤ outputBytes → aside (e .kind) ≡ true → leb (e .kind) kindNoted ≡ true → neededBy s e → Good s (effect e (withIdle s c v) reply)
+  idled e reply c v h l f r short a d n =
       service-changed e reply (placeOf c v) stageIdle 0 0 (omega arith) f r short
       (service-idle stageIdle 0 0 _ (lastOf s + 1) refl)
       (λ j b n p q z. q refl)
       a
+      d
       n
 
   -- DS messages and host calls.
   pub closing-good : (c by : ℕ) → c < channelCount → Good s (closing s c by)
   unfolding closing read pick fieldsOf aside _or_
   closing-good c by h =
-      channel-changed (closedEvent c by) [] c 0 h (omega arith) (closed-fits _ c next-number h by) (λ v. refl) short-empty refl (closed-needs _ _ c by)
+      channel-changed (closedEvent c by) [] c 0 h (omega arith) (closed-fits _ c next-number h by) (λ v. refl) short-empty refl refl (closed-needs _ _ c by)
 
   pub initiated-good : (c major : ℕ) → c < channelCount → major ≤ highestMinor → Good s (initiated s c major)
   unfolding initiated
@@ -127,18 +133,19 @@ module _ (s : List ℕ) (g : Given s) where
       on-pick (Good s) _ _ _
       (λ e.
       unfold read pick fieldsOf aside _or_ in
-      (channel-changed (readyEvent c) (initAck 0) c 1 h (omega arith) (ready-fits _ c next-number h) (λ v. refl) (initAck-short 0) refl (ready-needs _ _ c)))
+      (channel-changed (readyEvent c) (initAck 0) c 1 h (omega arith) (ready-fits _ c next-number h) (λ v. refl) (initAck-short 0) refl refl (ready-needs _ _ c)))
       (λ e.
       channel-changed (versionRefusedEvent c major) _ c 0 h (omega arith) (version-fits _ c next-number h major m)
       (λ v. unfold read pick fieldsOf in refl)
       (initNack-short _)
       (unfold aside _or_ in refl)
+      refl
       (version-needs _ _ c major))
 
   pub noting-good : (c type : ℕ) (reply : List ℕ) → c < channelCount → readyAt s c ≡ 1 → length reply ≤ outputBytes → Good s (noting s c type reply)
   unfolding noting read pick fieldsOf aside _or_
   noting-good c type reply h ready f =
-      unchanged (notedEvent c type) reply (noted-fits _ c next-number h type) (λ v. refl) f refl (noted-needs _ _ c type (shows-open s c h ready))
+      unchanged (notedEvent c type) reply (noted-fits _ c next-number h type) (λ v. refl) f refl refl (noted-needs _ _ c type (shows-open s c h ready))
 
   -- 5: the handle is that of the offer
   pub registered-good : (c v minor handle : ℕ) → c < channelCount → readyAt s c ≡ 1 → v < serviceCount → minor ≤ highestMinor → stageAt s (placeOf c v) ≡ stageOffered → handleAt s (placeOf c v) ≡ handle → Good s (effect (registeredEvent c v minor handle) (withRegistered s c v handle minor) [])
@@ -156,6 +163,7 @@ module _ (s : List ℕ) (g : Given s) where
       ∙ (unfold _or_ in (le-leb minor highestMinor m)))
       (λ j b n p z e. own j b n p (e ∙ sym q))
       (unfold aside _or_ in refl)
+      refl
       (registered-needs _ _ c v minor handle (shows-open s c h ready) (shows-test s c h v l (isOfferedAs handle) (offered-as-here s (placeOf c v) handle st q)))
     where
       own : (j : ℕ) → j < placeCount → (j ≡ placeOf c v → ⊥) → (stageAt s j ≡ stageIdle → ⊥) → handleAt s j ≡ handleAt s (placeOf c v) → ⊥
@@ -170,7 +178,7 @@ module _ (s : List ℕ) (g : Given s) where
       on-first (λ x. Good s (notAcknowledged s c x)) serviceCount (offeredAs s c handle)
       (λ v r.
       unfold notAcknowledged read pick fieldsOf stageOf aside _or_ in
-      (idled (offerRefusedEvent c v) [] c v h (r .below) (refused-fits _ c next-number h v (r .below)) (λ x. refl) short-empty refl
+      (idled (offerRefusedEvent c v) [] c v h (r .below) (refused-fits _ c next-number h v (r .below)) (λ x. refl) short-empty refl refl
       (refused-needs _ _ c v (shows-open s c h ready)
       (shows-test s c h v (r .below) isOffered (offered-here s (placeOf c v) (eqb-true _ stageOffered (both _ _ (r .passes) .0)))))))
       (λ _. unfold notAcknowledged in (noting-good c _ [] h ready short-empty))
@@ -179,7 +187,7 @@ module _ (s : List ℕ) (g : Given s) where
   ended-good : (c v : ℕ) (reply : List ℕ) → c < channelCount → readyAt s c ≡ 1 → v < serviceCount → (stageAt s (placeOf c v) ≡ stageIdle → ⊥) → length reply ≤ outputBytes → Good s (effect (serviceEndedEvent c v) (withIdle s c v) reply)
   unfolding read pick fieldsOf stageOf aside _or_
   ended-good c v reply h ready l live f =
-      idled (serviceEndedEvent c v) reply c v h l (ended-fits _ c next-number h v l) (λ x. refl) f refl
+      idled (serviceEndedEvent c v) reply c v h l (ended-fits _ c next-number h v l) (λ x. refl) f refl refl
       (ended-needs _ _ c v (shows-open s c h ready) (shows-test s c h v l isLive (live-here s (placeOf c v) live)))
 
   pub unregistered-good : (c handle : ℕ) → c < channelCount → readyAt s c ≡ 1 → Good s (unregistered s c handle (liveFor s c handle))
@@ -205,6 +213,7 @@ module _ (s : List ℕ) (g : Given s) where
       let u = live-rules _ _ _ _ _ live (g .facts .base .services j b) in
       omega (arith, u .ours .most))
       (unfold aside _or_ in refl)
+      refl
       (offered-needs _ _ c v (shows-open s c h ready) (shows-test s c h v l isIdle (idle-here s (placeOf c v) st)))
 
   pub withdrawing-good : (c v : ℕ) → c < channelCount → v < serviceCount → (stageAt s (placeOf c v) ≡ stageIdle → ⊥) → Good s (withdrawing s c v)
@@ -219,14 +228,15 @@ module _ (s : List ℕ) (g : Given s) where
 pub record OnlyNumbers (s t : List ℕ) : Type 0 where
   pub size : length t ≡ length s
   pub below : Agree s t 0 firstNumberedWord
+  pub above : Agree s t deviceCountWord stateWords
 
-pub number-only : (s : List ℕ) (c numbered highest : ℕ) → OnlyNumbers s (withNumber s c numbered highest)
-number-only s c numbered highest = record { size = number-length s c numbered highest; below = number-frame s c numbered highest }
+pub number-only : (s : List ℕ) (c numbered highest : ℕ) → c < channelCount → OnlyNumbers s (withNumber s c numbered highest)
+number-only s c numbered highest h = record { size = number-length s c numbered highest; below = number-frame s c numbered highest; above = number-above s c numbered highest h }
 
-pub anew-only : (s : List ℕ) (c v : ℕ) → OnlyNumbers s (numbersAnew s c v)
+pub anew-only : (s : List ℕ) (c v : ℕ) → c < channelCount → OnlyNumbers s (numbersAnew s c v)
 unfolding numbersAnew
-anew-only s c v =
-    on-pick (OnlyNumbers s) _ _ _ (λ _. number-only s c 0 0) (λ _. record { size = refl; below = λ j lo hi. refl })
+anew-only s c v h =
+    on-pick (OnlyNumbers s) _ _ _ (λ _. number-only s c 0 0 h) (λ _. record { size = refl; below = λ j lo hi. refl; above = λ j lo hi. refl })
 
 module _ (s t : List ℕ) (n : OnlyNumbers s t) (g : Given s) where
   last-numbers : lastOf t ≡ lastOf s
@@ -238,7 +248,7 @@ module _ (s t : List ℕ) (n : OnlyNumbers s t) (g : Given s) where
   pub given-numbers : Given t
   given-numbers = record {
     size = n .size ∙ g .size;
-    facts = sound-same s t (n .below) (g .facts);
+    facts = sound-same s t (n .below) (n .above) (g .facts);
     number = rw last-numbers (g .number);
   }
 
@@ -267,6 +277,7 @@ module _ (s t : List ℕ) (n : OnlyNumbers s t) (g : Given s) where
         (same-removal s t (λ j lo hi. n .below j (omega arith) hi))
         (x .turn);
     need = rw (numbers-moves .view, last-numbers) at (x .need);
+    devices = turn-back s (g .size) (g .facts .devices) t e (n .size ∙ g .size) (n .above) (x .devices);
   }
 
   pub reaches-numbers : (c : ℕ) → Reaches s c → Reaches t c
@@ -282,7 +293,7 @@ acknowledged-good s g c handle minor h ready m =
     on-first (λ x. Good s (acknowledged s c handle minor x)) serviceCount (offeredAs s c handle)
     (λ v r.
     let o = both _ _ (r .passes) in
-    let n = anew-only s c v in
+    let n = anew-only s c v h in
     unfold acknowledged in
     (good-numbers s (numbersAnew s c v) n g _
     (registered-good (numbersAnew s c v) (given-numbers s (numbersAnew s c v) n g) c v _ handle h (n .below c (omega arith) (omega arith) ∙ ready) (r .below) (omega arith)

@@ -12,16 +12,18 @@ use borrow.Author.Tests.{le-leb, lt-ltb, eq-eqb, ne-eqb, eqb-true, eqb-false}
 use Rattle.model.specs.Choice.{pick, every, _and_, _or_, firstBelow, tabulate}
 use Rattle.model.specs.declared.Found.the-variants.{At}
 use Rattle.model.specs.declared.Removal.{Removal}
-use Rattle.model.specs.Layout.{blockAt, blockIn, blockWords, channelCount, placeCount, serviceCount, firstBlockWord, lastOf, outstandingOf, stageAt, handleAt, minorAt, readyAt, stageIdle, stageRegistered, wordOf, isSet, removalOf, heldOf, withRemoval, firstStageWord, serviceWords, stateWords, blockCountWord, lastWord, heldWord, outstandingWord, mostRecords}
-use Rattle.model.specs.Blocks.{setupState, endOf, endBefore, acceptedLists, names, namedBlock}
+use Rattle.model.specs.Layout.{blockAt, blockIn, blockWords, channelCount, placeCount, serviceCount, firstBlockWord, lastOf, outstandingOf, stageAt, handleAt, minorAt, readyAt, stageIdle, stageRegistered, wordOf, isSet, removalOf, heldOf, withRemoval, firstStageWord, serviceWords, stateWords, blockCountWord, lastWord, heldWord, outstandingWord, mostRecords, firstNumberedWord, deviceCountWord, firstDeviceWord, deviceConfiguredPlace, deviceWords, namePlace, nameBytesIn, deviceIn, devicesOf}
+use Rattle.model.specs.Devices.{wordsHolding, deviceKeeps, devicesKeep}
+use Rattle.model.specs.Blocks.{setupState, endOf, endBefore, names, namedBlock}
 use Rattle.model.specs.State.{serviceSound, roomAt, removalRoom, collectedSound, resultSound, resultsSound, sound}
 use Rattle.model.specs.Reading.{Stage, idle, offered, registered}
 use Rattle.model.specs.Encoding.{Told, LiveAs, isOffered, isRegistered, blockTold, CollectedTold, nothing, below, ResultTold, ok, nowork, RemovalTold, SoundTold, SaysService, SaysRemoval, Says, stageTold, handleTold, minorTold, servicesTold, removalTold, lowTold, wordsTold, EncodingHolds}
 use Rattle.model.proofs.Choice.{clash, every-make, first-same, first-facts, pick-true, pick-false, tabulate-at, tabulate-length}
-use Rattle.model.proofs.Words.{Arrays, sets-above, sets-at, service-frame, service-length, service-word, counts-frame, counts-length, last-counts, held-counts, removal-frame, removal-length, removal-back, head-back}
+use Rattle.model.proofs.Words.{Arrays, sets-above, sets-at, service-frame, service-length, service-word, counts-frame, counts-length, last-counts, held-counts, removal-frame, removal-above, removal-length, removal-back, head-back}
 use Rattle.model.proofs.View.{block-same}
 use Rattle.model.proofs.Rules.{sound-test, service-idle, live-last, Live, Apart, Base, Outstanding, RemovalFacts, Removes}
-use Rattle.model.proofs.Setup.{Whole, whole-list, setup-length, high as setup-high, count as setup-count, block as setup-block}
+use Rattle.model.proofs.Devices.{devices-keep, device-facts, flag-few, name-few}
+use Rattle.model.proofs.Setup.{WholeLists, whole-lists, setup-length, high as setup-high, count as setup-count, block as setup-block, device-count as setup-devices, device-given as setup-device}
 
 flag : (b : Bool) → wordOf b ≤ 1
 flag true = omega arith
@@ -90,7 +92,7 @@ module _ (s : List ℕ) (t : Told) (w : Says s t) (f : SoundTold t) where
 
   base-said : Base s (lastOf s)
   base-said =
-      let b = whole-list (t .lists .blocks) (unfold acceptedLists in f .blocks) in
+      let b = whole-lists (t .lists) (f .lists) .blocks in
       record {
         few = rw (w .count) (b .few);
         blocks = λ i h. let g : i < length (t .lists .blocks) / blockWords = omega (arith, w .count) in rw (w .block i g, floor-said i g) (b .keeps i g);
@@ -165,6 +167,21 @@ module _ (s : List ℕ) (t : Told) (w : Says s t) (f : SoundTold t) where
       }
       go false o = absurd (clash (isSet (outstandingOf s)) (ap isSet (w .outstanding ∙ ap wordOf o)) e)
 
+-- the devices' words say accepted ones
+devices-said : (s : List ℕ) (t : Told) → Says s t → SoundTold t → devicesKeep s firstDeviceWord (devicesOf s) ≡ true
+devices-said s t w f =
+    let d = whole-lists (t .lists) (f .lists) .devices in
+    rw (w .devices)
+    (devices-keep (t .lists .devices) s 0 firstDeviceWord (length (t .lists .devices) / deviceWords)
+    (λ i h j g n. w .device i h j g)
+    (λ i h. flag-said i h (device-facts (t .lists .devices) 0 (length (t .lists .devices) / deviceWords) (d .keeps) .keeps i h))
+    (d .keeps))
+  where
+    flag-said : (i : ℕ) → i < length (t .lists .devices) / deviceWords → deviceKeeps (t .lists .devices) 0 i ≡ true → deviceIn s firstDeviceWord i .configured ≤ 1
+    flag-said i h e =
+        let few = flag-few (t .lists .devices) 0 i e in
+        unfold deviceIn in (rw (w .device i h deviceConfiguredPlace (omega arith)) (unfold deviceIn in few))
+
 accepted-said : (s : List ℕ) (t : Told) → Says s t → SoundTold t → sound s ≡ true
 accepted-said s t w f =
     sound-test s
@@ -176,6 +193,7 @@ accepted-said s t w f =
         helds = rw (w .held) (f .helds);
         numbered = rw (w .held, w .last) (f .numbered);
       };
+      devices = devices-said s t w f;
     })
 
 -- The words of a state. Those of a service:
@@ -214,8 +232,8 @@ module _ (v : ℕ → Stage) (s : List ℕ) where
           ∙ u (below-other k n h d)
 
 module _ (t : Told) (f : SoundTold t) where
-  whole : Whole (t .lists .blocks) (length (t .lists .blocks) / blockWords)
-  whole = whole-list (t .lists .blocks) (unfold acceptedLists in f .blocks)
+  whole : WholeLists (t .lists)
+  whole = whole-lists (t .lists) (f .lists)
 
   flags : List ℕ
   flags = tabulate (λ c. wordOf (t .ready c)) channelCount
@@ -281,6 +299,24 @@ module _ (t : Told) (f : SoundTold t) where
       go true = unfold pick in removal-frame (lowTold t) (removalTold (t .removal)) j h
       go false = unfold pick in refl
 
+  -- and above them
+  words-high : (j : ℕ) → firstNumberedWord ≤ j → getD (wordsTold t) j 0 ≡ getD (lowTold t) j 0
+  unfolding wordsTold
+  words-high j h = go (t .outstanding)
+    where
+      go : (b : Bool) → getD (pick b (withRemoval (lowTold t) (removalTold (t .removal))) (lowTold t)) j 0 ≡ getD (lowTold t) j 0
+      go true = unfold pick in removal-above (lowTold t) (removalTold (t .removal)) low-length arrays j h
+      go false = unfold pick in refl
+
+  -- the devices' words are setup's
+  words-given : (j : ℕ) → deviceCountWord ≤ j → getD (wordsTold t) j 0 ≡ getD (setupState (t .lists)) j 0
+  words-given j h = words-high j (omega arith) ∙ low-frame j (λ p q. omega arith) (λ p q. omega arith) ∙ opened-above j (omega arith)
+
+  words-device : (i : ℕ) → i < length (t .lists .devices) / deviceWords → (j : ℕ) → j < namePlace + wordsHolding (nameBytesIn (t .lists .devices) 0 i) → getD (wordsTold t) (firstDeviceWord + i * deviceWords + j) 0 ≡ getD (t .lists .devices) (0 + i * deviceWords + j) 0
+  words-device i h j g =
+      let short = name-few (t .lists .devices) 0 i (device-facts (t .lists .devices) 0 (length (t .lists .devices) / deviceWords) (whole .devices .keeps) .keeps i h) in
+      words-given (firstDeviceWord + i * deviceWords + j) (omega arith) ∙ setup-device (t .lists) whole i h j (omega arith)
+
   words-removal : t .outstanding ≡ true → wordsTold t ≡ withRemoval (lowTold t) (removalTold (t .removal))
   unfolding wordsTold
   words-removal o = pick-true _ _ _ o
@@ -303,7 +339,7 @@ module _ (t : Told) (f : SoundTold t) where
       rw (pick-false _ _ _ o)
       (low-frame outstandingWord (λ p q. omega arith) (λ p q. omega arith)
       ∙ opened-above outstandingWord (omega arith)
-      ∙ setup-high (t .lists) whole outstandingWord (omega arith)
+      ∙ setup-high (t .lists) whole outstandingWord (omega arith) (omega arith)
       ∙ getD-replicate {A = ℕ} stateWords outstandingWord 0 0 (omega arith))
 
   removal-said-by : t .outstanding ≡ true → SaysRemoval (removalOf (wordsTold t)) (t .removal)
@@ -341,9 +377,11 @@ module _ (t : Told) (f : SoundTold t) where
     service = λ k h. service-words (t .service k) _ _ _ (words-service k 0 _ h (omega arith) (omega arith)) (words-service k 1 _ h (omega arith) (omega arith)) (words-service k 2 _ h (omega arith) (omega arith));
     count = words-low blockCountWord (omega arith) ∙ low-frame blockCountWord (λ p q. omega arith) (λ p q. omega arith) ∙ opened-above blockCountWord (omega arith) ∙ setup-count (t .lists) whole;
     block = λ i h.
-        block-same (setupState (t .lists)) (wordsTold t) i (omega (arith, whole .few))
+        block-same (setupState (t .lists)) (wordsTold t) i (omega (arith, whole .blocks .few))
         (λ j lo hi. words-low j (omega arith) ∙ low-frame j (λ p q. omega arith) (λ p q. omega arith) ∙ opened-above j (omega arith))
         ∙ setup-block (t .lists) whole i h;
+    devices = words-given deviceCountWord (omega arith) ∙ setup-devices (t .lists) whole;
+    device = words-device;
     last = words-low lastWord (omega arith) ∙ last-said;
     held = words-low heldWord (omega arith) ∙ held-said;
     outstanding = words-outstanding (t .outstanding) refl;

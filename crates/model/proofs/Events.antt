@@ -7,8 +7,8 @@ use mathlib.Core.Bool.{true}
 use Rattle.entry.specs.Word.{InRange}
 use Rattle.model.specs.Choice.{_and_, _or_}
 use Rattle.model.specs.declared.Event.{Event}
-use Rattle.model.specs.Layout.{channelCount, serviceCount, mostRecords, highestNumber, highestMinor, mostBudget}
-use Rattle.model.specs.Journal.{kinds, unnamedZero, keepsTable, fieldsOf, readyEvent, closedEvent, versionRefusedEvent, offeredEvent, registeredEvent, offerRefusedEvent, serviceEndedEvent, deliveredEvent, dataRefusedEvent, answeredEvent, configuredEvent, begunEvent, cancelledEvent, collectedEvent, settledEvent, removalEndEvent, notedEvent}
+use Rattle.model.specs.Layout.{channelCount, serviceCount, mostDevices, mostRecords, highestNumber, highestMinor, mostBudget}
+use Rattle.model.specs.Journal.{kinds, unnamedZero, keepsTable, fieldsOf, readyEvent, closedEvent, versionRefusedEvent, offeredEvent, registeredEvent, offerRefusedEvent, serviceEndedEvent, deliveredEvent, dataRefusedEvent, answeredEvent, configuredEvent, begunEvent, cancelledEvent, collectedEvent, settledEvent, removalEndEvent, notedEvent, deviceEvent}
 
 pub record Fits (number : ℕ) (e : Event) : Type 0 where
   pub range : InRange (fieldsOf number e)
@@ -55,9 +55,9 @@ module _ (number c : ℕ) (n : number ≤ highestNumber) (h : c < channelCount) 
   unfolding fieldsOf kinds unnamedZero _and_ _or_
   data-refused-fits handle = record { range = omega arith; table = refl }
 
-  pub answered-fits : (code request : ℕ) → code < codeEnd → Fits number (answeredEvent c code request)
+  pub answered-fits : (v code request : ℕ) → v < serviceCount → code < codeEnd → Fits number (answeredEvent c v code request)
   unfolding fieldsOf kinds unnamedZero _and_ _or_
-  answered-fits code request k = record { range = omega arith; table = refl }
+  answered-fits v code request l k = record { range = omega arith; table = refl }
 
   pub configured-fits : (blocks : ℕ) → Fits number (configuredEvent c blocks)
   unfolding fieldsOf kinds unnamedZero _and_ _or_
@@ -86,3 +86,7 @@ module _ (number c : ℕ) (n : number ≤ highestNumber) (h : c < channelCount) 
   pub noted-fits : (type : ℕ) → Fits number (notedEvent c type)
   unfolding fieldsOf kinds unnamedZero _and_ _or_
   noted-fits type = record { range = omega arith; table = refl }
+
+  pub device-fits : (result place configured : ℕ) → result < codeEnd → place < mostDevices → Fits number (deviceEvent c result place configured)
+  unfolding fieldsOf kinds unnamedZero _and_ _or_
+  device-fits result place configured k p = record { range = omega arith; table = refl }

@@ -1,6 +1,7 @@
 pub mod Choice
 pub mod Loops
 pub mod Words
+pub mod Devices
 pub mod View
 pub mod Rules
 pub mod Sounds
@@ -16,6 +17,7 @@ pub mod MemoryEffects
 pub mod Configured
 pub mod WorkEffects
 pub mod Steps
+pub mod DeviceEffects
 pub mod ReceiveEffects
 pub mod Calls
 pub mod Lists

@@ -6,7 +6,7 @@ use mathlib.Core.Path.{_≡_, refl, sym, ap, _∙_}
 use mathlib.Core.Bool.{Bool, true, false}
 use mathlib.Core.List.{List, []}
 use lib.ListN.{length, getD, length-replicate}
-use lib.Dec.{ltb, eqb}
+use lib.Dec.{leb, ltb, eqb}
 use borrow.Author.Tests.{leb-true, eqb-true, eqb-false, lt-ltb, not-false}
 use Rattle.model.specs.Choice.{pick, _or_, every}
 use Rattle.model.specs.declared.Event.{Event}
@@ -15,14 +15,15 @@ use Rattle.model.specs.declared.Found.the-variants.{At, Nowhere}
 use Rattle.model.specs.declared.Removal.{Removal}
 use Rattle.model.specs.declared.Request.{Request}
 use Rattle.model.specs.declared.Request.the-variants.{Configure, Unconfigure, Query, Status, Cancel, Malformed}
-use Rattle.model.specs.Layout.{blocksOf, blockAt, lastOf, outstandingOf, isSet, removalOf, withConfigured, withRemoval, withNumber, lastWord, mostBlocks, mostRecords, outputBytes, outstandingWord, noBlock}
+use Rattle.model.specs.Layout.{memoryService, deviceCountWord, stateWords, blocksOf, blockAt, lastOf, outstandingOf, isSet, removalOf, withConfigured, withRemoval, withNumber, lastWord, mostBlocks, mostRecords, outputBytes, outstandingWord, noBlock}
 use Rattle.model.specs.State.{removalRoom, collectedSound, resultsSound}
-use Rattle.model.specs.Journal.{fieldsOf, answeredEvent, configuredEvent, cancelledEvent, begunEvent, codeBlocked, codeError, codeNone}
+use Rattle.model.specs.Journal.{fieldsOf, answeredEvent, configuredEvent, cancelledEvent, begunEvent, codeBlocked, codeError, codeNone, kindNoted}
 use Rattle.model.specs.Messages.{Effect, effect}
 use Rattle.model.specs.Memory.{argumentOf, addrIn, sizeIn, hasRecords, requestOf, requestNumber, memoryReply, answering, answeringError, blocked, Progress, oneFailed, oneConfigured, oneUnchanged, configureOne, configuredBy, configureReply, answeringConfigure, beginning, querying, reporting, marked, cancelling, requested, answeredMemory, DR-MEM-OK, configureAt, newRemoval}
 use Rattle.model.specs.Reading.{View, removing, read, seeBlocks, configuredIn, markedRemoval, blocksShown, removalShown, viewOf, seeRemoval}
 use Rattle.model.proofs.Choice.{on-pick, both, tabulate-at, tabulate-length}
-use Rattle.model.proofs.Words.{Arrays, loaded-arrays, configured-frame}
+use Rattle.model.proofs.Words.{Agree, Arrays, loaded-arrays, configured-frame, removal-above}
+use Rattle.model.proofs.Devices.{noneAsked}
 use Rattle.model.proofs.View.{Moves, shape-moves, stays, then, turns, configured-moves, removal-moves}
 use Rattle.model.proofs.Rules.{Base, Ours, RemovalFacts}
 use Rattle.model.proofs.Events.{Fits, codeEnd, answered-fits, configured-fits, begun-fits, cancelled-fits}
@@ -80,6 +81,7 @@ pub record Configures (s : List ℕ) (p : Progress) : Type 0 where
   pub removal : outstandingOf (p .state) ≡ outstandingOf s
   pub sizes : SameSizes s (p .state)
   pub within : p .mask < 2 ^ blocksOf s
+  pub above : Agree s (p .state) deviceCountWord stateWords
 
 module _ (s : List ℕ) (g : Given s) where
   configured-first : Configures s (record { state = s; mask = 0; failed = false; results = [] })
@@ -90,6 +92,7 @@ module _ (s : List ℕ) (g : Given s) where
     removal = refl;
     sizes = same-sizes s;
     within = none-within (blocksOf s);
+    above = λ j lo hi. refl;
   }
 
   configured-another : (p : Progress) (k : ℕ) → Configures s p → k < blocksOf (p .state) → blockAt (p .state) k .configured ≡ 0 → Configures s (oneConfigured p k)
@@ -112,6 +115,7 @@ module _ (s : List ℕ) (g : Given s) where
         removal = configured-frame (p .state) k 1 outstandingWord (λ a b. omega arith) ∙ r .removal;
         sizes = sizes-then s (p .state) (withConfigured (p .state) k 1) (r .sizes) (flag-sizes (p .state) k 1 (w .size) (w .few) h);
         within = bit-within (p .mask) k (blocksOf s) bit (omega (arith, r .moves .blocks)) (r .within);
+        above = λ j lo hi. configured-frame (p .state) k 1 j (λ a b. omega arith) ∙ r .above j lo hi;
       }
 
   configured-one : (p : Progress) (addr size : ℕ) → Configures s p → Configures s (configureOne p addr size)
@@ -120,10 +124,10 @@ module _ (s : List ℕ) (g : Given s) where
       on-pick (Configures s) _ _ _ (λ e. failed) (λ e. go (namedBlock (p .state) addr size) refl)
     where
       failed : Configures s (oneFailed p)
-      failed = unfold oneFailed in record { moves = r .moves; base = r .base; removal = r .removal; sizes = r .sizes; within = r .within }
+      failed = unfold oneFailed in record { moves = r .moves; base = r .base; removal = r .removal; sizes = r .sizes; within = r .within; above = r .above }
 
       unchanged-one : Configures s (oneUnchanged p)
-      unchanged-one = unfold oneUnchanged in record { moves = r .moves; base = r .base; removal = r .removal; sizes = r .sizes; within = r .within }
+      unchanged-one = unfold oneUnchanged in record { moves = r .moves; base = r .base; removal = r .removal; sizes = r .sizes; within = r .within; above = r .above }
 
       go : (x : Found) → namedBlock (p .state) addr size ≡ x → Configures s (configureAt p x)
       go (At i) e =
@@ -139,8 +143,8 @@ module _ (s : List ℕ) (g : Given s) where
   configured-all b (suc n) = configured-one (configuredBy s b n) (addrIn b n) (sizeIn b n) (configured-all b n)
 
   -- Blocks configured while none is outstanding.
-  blocks-changed : (e : Event) (reply : List ℕ) (p : Progress) → Fits (lastOf s + 1) e → readBy s e (viewOf s) ≡ seeBlocks (configuredIn (p .mask) (viewOf s .blocks)) (viewOf s) → length reply ≤ outputBytes → outstandingOf s ≡ 0 → Configures s p → aside (e .kind) ≡ true → neededBy s e → Good s (effect e (p .state) reply)
-  blocks-changed e reply p f q short o r a n = record {
+  blocks-changed : (e : Event) (reply : List ℕ) (p : Progress) → Fits (lastOf s + 1) e → readBy s e (viewOf s) ≡ seeBlocks (configuredIn (p .mask) (viewOf s .blocks)) (viewOf s) → length reply ≤ outputBytes → outstandingOf s ≡ 0 → Configures s p → aside (e .kind) ≡ true → leb (e .kind) kindNoted ≡ true → neededBy s e → Good s (effect e (p .state) reply)
+  blocks-changed e reply p f q short o r a d n = record {
     entry = f;
     moves = turns (readBy s e) (r .moves) (sym q);
     fits = short;
@@ -148,6 +152,7 @@ module _ (s : List ℕ) (g : Given s) where
     removal = removes-none (p .state) (lastOf s + 1) (r .removal ∙ o);
     turn = configures (r .sizes) o (r .removal ∙ o) a;
     need = n;
+    devices = noneAsked (r .above) d;
   }
 
   -- 10 and 11, of a CONFIGURE
@@ -157,18 +162,18 @@ module _ (s : List ℕ) (g : Given s) where
       on-pick (Good s) _ _ _
       (λ e.
       let z = eqb-true (p .mask) 0 e in
-      blocks-changed (answeredEvent c codeNone request) _ p (answered-fits _ c (next-number s g) (h .below) codeNone request (omega arith))
+      blocks-changed (answeredEvent c memoryService codeNone request) _ p (answered-fits _ c (next-number s g) (h .below) memoryService codeNone request (omega arith) (omega arith))
       (rw (z, configured-none (viewOf s .blocks)))
-      short o r refl (answered-needs _ _ c codeNone request (h .ready) (h .shown)))
-      (λ e. blocks-changed (configuredEvent c (p .mask)) _ p (configured-fits _ c (next-number s g) (h .below) (p .mask)) refl short o r refl
+      short o r refl refl (answered-needs _ _ c memoryService codeNone request (h .ready) (h .shown)))
+      (λ e. blocks-changed (configuredEvent c (p .mask)) _ p (configured-fits _ c (next-number s g) (h .below) (p .mask)) refl short o r refl refl
       (configured-needs _ _ c (p .mask) (h .ready) (h .shown) (rw (blocks-count s) (r .within))))
     where
       short : length (configureReply p handle request b n) ≤ outputBytes
       short = unfold configureReply in results-short handle _ request n few _ (λ i. result-length (p .state) (addrIn b i) (sizeIn b i) _)
 
   -- The removal changed, and nothing else.
-  pub removal-changed : (e : Event) (reply : List ℕ) (m : Removal) → Arrays m → Fits (lastOf s + 1) e → readBy s e (viewOf s) ≡ seeRemoval (removing (m .cancelled) (m .position) (m .collected)) (viewOf s) → length reply ≤ outputBytes → RemovalFacts s (lastOf s + 1) m → (SameBlocks s (withRemoval s m) → NewRemoval (withRemoval s m) m → Turn s (effect e (withRemoval s m) reply)) → neededBy s e → Good s (effect e (withRemoval s m) reply)
-  removal-changed e reply m a f q short facts turn n = record {
+  pub removal-changed : (e : Event) (reply : List ℕ) (m : Removal) → Arrays m → Fits (lastOf s + 1) e → readBy s e (viewOf s) ≡ seeRemoval (removing (m .cancelled) (m .position) (m .collected)) (viewOf s) → length reply ≤ outputBytes → RemovalFacts s (lastOf s + 1) m → (SameBlocks s (withRemoval s m) → NewRemoval (withRemoval s m) m → Turn s (effect e (withRemoval s m) reply)) → leb (e .kind) kindNoted ≡ true → neededBy s e → Good s (effect e (withRemoval s m) reply)
+  removal-changed e reply m a f q short facts turn d n = record {
     entry = f;
     moves = turns (readBy s e) (removal-moves s (shape s g) m a) (sym q);
     fits = short;
@@ -176,6 +181,7 @@ module _ (s : List ℕ) (g : Given s) where
     removal = removes-made s (lastOf s + 1) m (g .size) (g .facts .base .few) a facts;
     turn = turn (removal-blocks s m (g .facts .base .few)) (new-removal s m (g .size) a);
     need = n;
+    devices = noneAsked (λ j lo hi. removal-above s m (g .size) a j (omega arith)) d;
   }
 
   -- 12
@@ -197,6 +203,7 @@ module _ (s : List ℕ) (g : Given s) where
         results = refl;
       })
       (λ blocks removal. begins (newRemoval c handle request b n) blocks removal refl refl o refl)
+      refl
       (begun-needs _ _ c n request (h .ready) (h .shown))
 
   -- what is shown of an outstanding removal
@@ -229,13 +236,14 @@ module _ (s : List ℕ) (g : Given s) where
         results = m .results;
       })
       (λ blocks removal. marks blocks removal (removes-now s g o .one) refl)
+      refl
       (cancelled-needs _ _ c request (h .ready) (h .shown) (removing-shown o))
 
   -- The requests.
   answering-good : (c code request : ℕ) (reply : List ℕ) → Reaches s c → code < codeEnd → length reply ≤ outputBytes → Good s (answering s c code request reply)
   unfolding answering fieldsOf read pick aside _or_
   answering-good c code request reply h k f =
-      unchanged s g (answeredEvent c code request) reply (answered-fits _ c (next-number s g) (h .below) code request k) (λ v. refl) f refl (answered-needs _ _ c code request (h .ready) (h .shown))
+      unchanged s g (answeredEvent c memoryService code request) reply (answered-fits _ c (next-number s g) (h .below) memoryService code request (omega arith) k) (λ v. refl) f refl refl (answered-needs _ _ c memoryService code request (h .ready) (h .shown))
 
   blocked-good : (c handle request : ℕ) (b : List ℕ) (n : ℕ) → Reaches s c → n ≤ mostRecords → Good s (blocked s c handle request b n)
   unfolding blocked
@@ -332,7 +340,7 @@ on-memory P s c handle b o e =
 
 pub memory-good : (s : List ℕ) (g : Given s) (c handle : ℕ) (b : List ℕ) → Reaches s c → Ours 0 (lastOf s + 1) handle → Good s (answeredMemory s c handle b)
 memory-good s g c handle b h u =
-    let n = number-only s c 1 (requestNumber b) in
+    let n = number-only s c 1 (requestNumber b) (h .below) in
     let h′ = reaches-numbers s (numbered s c b) n g c h in
     let g′ = given-numbers s (numbered s c b) n g in
     let back = good-numbers s (numbered s c b) n g in

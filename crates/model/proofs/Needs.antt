@@ -7,7 +7,7 @@ use lib.ListN.{length}
 use borrow.Author.Tests.{lt-ltb}
 use Rattle.model.specs.Choice.{pick, _and_, _or_}
 use Rattle.model.specs.Layout.{memoryService}
-use Rattle.model.specs.Journal.{fieldsOf, readyEvent, closedEvent, versionRefusedEvent, offeredEvent, registeredEvent, offerRefusedEvent, serviceEndedEvent, deliveredEvent, dataRefusedEvent, answeredEvent, configuredEvent, begunEvent, cancelledEvent, collectedEvent, settledEvent, removalEndEvent, notedEvent}
+use Rattle.model.specs.Journal.{fieldsOf, readyEvent, closedEvent, versionRefusedEvent, offeredEvent, registeredEvent, offerRefusedEvent, serviceEndedEvent, deliveredEvent, dataRefusedEvent, answeredEvent, configuredEvent, begunEvent, cancelledEvent, collectedEvent, settledEvent, removalEndEvent, notedEvent, deviceEvent}
 use Rattle.model.specs.Reading.{View}
 use Rattle.model.specs.Demand3.{showsRegistered}
 use Rattle.model.specs.Replay.{showsReady, showsStage, isIdle, isOfferedAs, isOffered, isLive, isRegistered, isRemoving, channelNeed, serviceNeed, handleNeed, removalNeed, settles, blockNeed, needed}
@@ -50,9 +50,9 @@ module _ (number : ℕ) (x : View) (c : ℕ) where
   unfolding fieldsOf needed channelNeed serviceNeed handleNeed removalNeed blockNeed pick _and_ _or_
   data-refused-needs handle r t = join _ _ r (join _ _ t refl)
 
-  pub answered-needs : (code request : ℕ) → showsReady x c ≡ true → isRegistered (showsStage x c memoryService) ≡ true → needed (fieldsOf number (answeredEvent c code request)) request x ≡ true
+  pub answered-needs : (v code request : ℕ) → showsReady x c ≡ true → isRegistered (showsStage x c v) ≡ true → needed (fieldsOf number (answeredEvent c v code request)) request x ≡ true
   unfolding fieldsOf needed channelNeed serviceNeed handleNeed removalNeed blockNeed pick _and_ _or_
-  answered-needs code request r t = join _ _ r (join _ _ t refl)
+  answered-needs v code request r t = join _ _ r (join _ _ t refl)
 
   pub configured-needs : (blocks : ℕ) → showsReady x c ≡ true → isRegistered (showsStage x c memoryService) ≡ true → blocks < 2 ^ length (x .blocks) → needed (fieldsOf number (configuredEvent c blocks)) blocks x ≡ true
   unfolding fieldsOf needed channelNeed serviceNeed handleNeed removalNeed blockNeed pick _and_ _or_
@@ -81,3 +81,7 @@ module _ (number : ℕ) (x : View) (c : ℕ) where
   pub noted-needs : (type : ℕ) → showsReady x c ≡ true → needed (fieldsOf number (notedEvent c type)) type x ≡ true
   unfolding fieldsOf needed channelNeed serviceNeed handleNeed removalNeed blockNeed pick _and_ _or_
   noted-needs type r = join _ _ r refl
+
+  pub device-needs : (result place configured : ℕ) → needed (fieldsOf number (deviceEvent c result place configured)) configured x ≡ true
+  unfolding fieldsOf needed channelNeed serviceNeed handleNeed removalNeed blockNeed pick _and_ _or_
+  device-needs result place configured = refl

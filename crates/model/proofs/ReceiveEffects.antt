@@ -4,19 +4,19 @@ use Prim.Native.Nat.{ℕ, _+_, _≤_, _<_}
 use native.Mathlib.Omega.{arith}
 use mathlib.Core.Path.{_≡_, refl, sym}
 use mathlib.Core.List.{List, []}
-use mathlib.Core.Bool.{Bool, true, false}
+use mathlib.Core.Bool.{true}
 use lib.Dec.{eqb}
 use borrow.Author.Tests.{eqb-true}
 use Rattle.wire.proofs.Laws.{number-bound}
 use Rattle.model.specs.declared.Message.{Message}
 use Rattle.model.specs.declared.Message.the-variants.{InitReq, RegReq, RegAck, RegNack, Unreg, UnregAck, UnregNack, Data, Nack, Bad}
-use Rattle.model.specs.Layout.{memoryService, placeOf, readyAt, channelCount, highestMinor, lastOf, placeCount, serviceCount, stageRegistered, stageAt}
+use Rattle.model.specs.Layout.{memoryService, deviceService, placeOf, readyAt, channelCount, highestMinor, lastOf, placeCount, serviceCount, stageRegistered, stageAt}
 use Rattle.model.specs.Messages.{decoded, decodedByType, registeredAs, registeredFor, route, DS-INV-HDL, effect, nack}
 use Rattle.model.specs.Calls.{dataFor, heard, hears, receiving, routed}
 use Rattle.model.specs.Choice.{pick, _or_}
 use Rattle.model.specs.declared.Found.the-variants.{Nowhere}
 use Rattle.model.specs.declared.Route.{Route}
-use Rattle.model.specs.declared.Route.the-variants.{Memory, Host}
+use Rattle.model.specs.declared.Route.the-variants.{Memory, Devices, Host}
 use Rattle.model.proofs.Choice.{on-pick, on-first, first-nowhere, both}
 use Rattle.model.proofs.Rules.{Ours, live-rules}
 use Rattle.model.proofs.Events.{delivered-fits, data-refused-fits}
@@ -25,6 +25,7 @@ use Rattle.model.proofs.Rules.{Given}
 use Rattle.model.proofs.Effects.{Good, next-number, base-now, unchanged, closing-good, initiated-good, noting-good, acknowledged-good, not-acknowledged-good, unregistered-good}
 use Rattle.model.proofs.Turns.{aside}
 use Rattle.model.proofs.MemoryEffects.{memory-good}
+use Rattle.model.proofs.DeviceEffects.{devices-good}
 use Rattle.model.specs.Journal.{deliveredEvent, fieldsOf, dataRefusedEvent}
 use Rattle.model.specs.Reading.{read, viewOf}
 use Rattle.model.specs.Replay.{showsReady, showsStage, isRegistered}
@@ -59,31 +60,34 @@ versions m =
     (λ _. on-pick Versions _ _ _ (λ _. tt) (λ _. tt))))))))))
     (λ _. tt)
 
--- the memory service is answered inside, and no other
-memory-route : (v : ℕ) → route v ≡ Memory → v ≡ memoryService
-unfolding route pick
-memory-route v q = go (eqb v memoryService) refl q
-  where
-    go : (b : Bool) → eqb v memoryService ≡ b → pick b Memory Host ≡ Memory → v ≡ memoryService
-    go true e z = eqb-true v memoryService e
-    go false e z = absurd (let y : _≡_ {A = ℕ} 0 1 = cc in omega arith)
+-- The service that a route is of, where it is answered inside.
+abbrev Routed : ℕ → Route → Type 0
+Routed v Memory = v ≡ memoryService
+Routed v Devices = v ≡ deviceService
+Routed v Host = Unit {0}
+
+route-of : (v : ℕ) → Routed v (route v)
+unfolding route
+route-of v =
+    on-pick (Routed v) _ _ _ (λ e. eqb-true v memoryService e)
+    (λ _. on-pick (Routed v) _ _ _ (λ e. eqb-true v deviceService e) (λ _. tt))
 
 module _ (s : List ℕ) (g : Given s) where
   delivered-good : (c v : ℕ) → c < channelCount → v < serviceCount → showsReady (viewOf s) c ≡ true → isRegistered (showsStage (viewOf s) c v) ≡ true → Good s (effect (deliveredEvent c v) s [])
   unfolding read pick fieldsOf aside _or_
   delivered-good c v h l r n =
-      unchanged s g (deliveredEvent c v) [] (delivered-fits _ c (next-number s g) h v l) (λ x. refl) short-empty refl (delivered-needs _ _ c v r n)
+      unchanged s g (deliveredEvent c v) [] (delivered-fits _ c (next-number s g) h v l) (λ x. refl) short-empty refl refl (delivered-needs _ _ c v r n)
 
   data-refused-good : (c handle : ℕ) → c < channelCount → readyAt s c ≡ 1 → registeredFor s c handle ≡ Nowhere → Good s (effect (dataRefusedEvent c handle) s (nack handle DS-INV-HDL))
   unfolding read pick fieldsOf aside _or_
   data-refused-good c handle h ready e =
-      unchanged s g (dataRefusedEvent c handle) _ (data-refused-fits _ c (next-number s g) h handle) (λ v. refl) (nack-short handle _) refl
+      unchanged s g (dataRefusedEvent c handle) _ (data-refused-fits _ c (next-number s g) h handle) (λ v. refl) (nack-short handle _) refl refl
       (data-refused-needs _ _ c handle (shows-open s c h ready) (shows-none s (g .facts .base) c handle h e))
 
-  routed-good : (c handle : ℕ) (payload : List ℕ) (v : ℕ) (x : Route) → route v ≡ x → c < channelCount → v < serviceCount → showsReady (viewOf s) c ≡ true → isRegistered (showsStage (viewOf s) c v) ≡ true → Ours 0 (lastOf s + 1) handle → Good s (routed s c handle payload v x)
+  routed-good : (c handle : ℕ) (payload : List ℕ) (v : ℕ) (x : Route) → Routed v x → c < channelCount → v < serviceCount → showsReady (viewOf s) c ≡ true → isRegistered (showsStage (viewOf s) c v) ≡ true → Ours 0 (lastOf s + 1) handle → Good s (routed s c handle payload v x)
   unfolding routed
-  routed-good c handle payload v Memory q h l r n o =
-      memory-good s g c handle payload (record { below = h; ready = r; shown = rw (sym (memory-route v q)) n }) o
+  routed-good c handle payload v Memory q h l r n o = memory-good s g c handle payload (record { below = h; ready = r; shown = rw (sym q) n }) o
+  routed-good c handle payload v Devices q h l r n o = devices-good s g c (record { below = h; ready = r; shown = rw (sym q) n }) handle payload
   routed-good c handle payload v Host q h l r n o = delivered-good c v h l r n
 
   data-good : (c handle : ℕ) (payload : List ℕ) → c < channelCount → readyAt s c ≡ 1 → Good s (dataFor s c handle payload (registeredFor s c handle))
@@ -95,7 +99,7 @@ module _ (s : List ℕ) (g : Given s) where
       let k : placeOf c v < placeCount = omega (arith, r .below) in
       let two : stageAt s (placeOf c v) ≡ stageRegistered = eqb-true _ stageRegistered (p .0) in
       let u = live-rules _ _ _ _ _ (λ q. omega (arith, two)) (base-now s g .services (placeOf c v) k) .ours in
-      routed-good c handle payload v (route v) refl h (r .below)
+      routed-good c handle payload v (route v) (route-of v) h (r .below)
       (shows-open s c h ready)
       (shows-test s c h v (r .below) isRegistered (registered-here s (placeOf c v) two))
       (record { least = omega arith; most = omega (arith, u .most, eqb-true _ handle (p .1)) }))

@@ -31,7 +31,7 @@ use Rattle.model.specs.declared.Removal.{Removal}
 use Rattle.model.proofs.WorkEffects.{on-step}
 use Rattle.model.proofs.Turns.{SameRemoval, same-blocks, new-removal}
 use Rattle.model.proofs.Choice.{on-pick, tabulate-at, pick-false}
-use Rattle.model.proofs.Words.{loaded-arrays}
+use Rattle.model.proofs.Words.{number-frame, loaded-arrays}
 use Rattle.model.proofs.View.{shape-moves}
 use Rattle.model.proofs.Steps.{Step, adds, nowork, ok, ends, step-of}
 use Rattle.model.proofs.Replies.{behind, record-stands, result-length, query-length}
@@ -43,7 +43,7 @@ use Rattle.model.proofs.Configured.{repeat-result}
 use Rattle.model.proofs.Calls.{taken, on-accepted}
 use Rattle.model.proofs.Kept.{noted-is}
 use Rattle.model.proofs.WorkKept.{work-allowed}
-use Rattle.model.proofs.Delivers.{reachedBy, reply-is, reached-of, memory-answers}
+use Rattle.model.proofs.Delivers.{channel-within, reachedBy, reply-is, reached-of, memory-answers}
 use Rattle.model.proofs.Setup.{starts}
 use Rattle.model.proofs.Lists.{Kept, AfterCall, grown, shifted, on-list, meets-outcome}
 use Rattle.model.proofs.Demand3.{at-first, meets-before, meets-here}
@@ -210,7 +210,7 @@ module _ (s j out : List ℕ) (c handle : ℕ) (m : List ℕ) (r : Outcome) (siz
           memory-answers s c handle m (a .isData) tells ∙ risen-answer s c handle (requestIn m) x q f (a .isHigher) in
           record {
             few = t .given .facts .base .few;
-            given = given-numbers s (numbered s c (requestIn m)) (number-only s c 1 (requestNumber (requestIn m))) (t .given);
+            given = given-numbers s (numbered s c (requestIn m)) (number-only s c 1 (requestNumber (requestIn m)) (channel-within s j out c m y)) (t .given);
             replies = ap replyOf (sym e) ∙ reply-is s j out (pagesOf s (receive c m)) (effectOf s (receive c m)) ∙ ap (λ (x : Effect). x .reply) is;
             tells = ap noted (sym e) ∙ noted-is s j out (pagesOf s (receive c m)) (effectOf s (receive c m)) t ∙ ap (λ (x : Effect). x .event) is;
             removal = rw (← e, ← is) (accepted-removal s j out (pagesOf s (receive c m)) (effectOf s (receive c m)));
@@ -218,13 +218,13 @@ module _ (s j out : List ℕ) (c handle : ℕ) (m : List ℕ) (r : Outcome) (siz
 
   -- none is outstanding
   none-now : outstandingOf s ≡ 0 → isSet (outstandingOf (numbered s c (requestIn m))) ≡ false
-  none-now o = rw (number-only s c 1 (requestNumber (requestIn m)) .below outstandingWord (omega arith) (omega arith), o)
+  none-now o = rw (number-frame s c 1 (requestNumber (requestIn m)) outstandingWord (omega arith) (omega arith), o)
 
   -- a repeat in a CONFIGURE
   configures-nowork : (n k i : ℕ) → Requests (requestIn m) DR-MEM-CONFIGURE n → outstandingOf s ≡ 0 → i < n → Repeat (addrIn (requestIn m)) (sizeIn (requestIn m)) k i → ((q : ℕ) → q < i → isFound (namedBlock s (addrIn (requestIn m) q) (sizeIn (requestIn m) q)) ≡ true) → resultIn (replyOf r) i ≡ DR-MEM-RES-NOWORK
   configures-nowork n k i q o h again f =
       let x = answers (Configure n) (is-configure (requestIn m) DR-MEM-CONFIGURE n q refl) refl in
-      let same = same-blocks s (numbered s c (requestIn m)) (x .few) (λ j lo hi. number-only s c 1 (requestNumber (requestIn m)) .below j (omega arith) (omega arith)) .sizes .named in
+      let same = same-blocks s (numbered s c (requestIn m)) (x .few) (λ j lo hi. number-frame s c 1 (requestNumber (requestIn m)) j (omega arith) (omega arith)) .sizes .named in
       rw (x .replies, configure-reply (numbered s c (requestIn m)) c handle (requestNumber (requestIn m)) (requestIn m) n (none-now o))
       (result-in (configuredBy (numbered s c (requestIn m)) (requestIn m) n) handle (requestNumber (requestIn m)) (requestIn m) n i h
       ∙ ap (λ (y : ℕ). y % 256 ^ 4)

@@ -10,7 +10,8 @@ use lib.Dec.{leb, eqb}
 use borrow.Author.Tests.{not-true, leb-true, ltb-true, eqb-true, eqb-false, le-leb, lt-ltb, eq-eqb, ne-eqb}
 use Rattle.model.specs.Choice.{pick, _and_, _or_, every}
 use Rattle.model.specs.declared.Removal.{Removal}
-use Rattle.model.specs.Layout.{readyAt, stageAt, handleAt, minorAt, blocksOf, Block, blockAt, lastOf, heldOf, outstandingOf, cancelledOf, isSet, removalOf, channelCount, firstBlockWord, highestMinor, highestNumber, mostBlocks, mostHeld, mostRecords, placeCount, serviceCount, stageIdle, stageOffered, stageRegistered, stateWords}
+use Rattle.model.specs.Layout.{readyAt, stageAt, handleAt, minorAt, blocksOf, Block, blockAt, lastOf, heldOf, outstandingOf, cancelledOf, isSet, removalOf, channelCount, firstBlockWord, highestMinor, highestNumber, mostBlocks, mostHeld, mostRecords, placeCount, serviceCount, stageIdle, stageOffered, stageRegistered, stateWords, firstDeviceWord, devicesOf}
+use Rattle.model.specs.Devices.{devicesKeep}
 use Rattle.model.specs.Blocks.{endOf, blockKeeps, endBefore, blocksKeep, highestEnd, mostPages, pageSize}
 use Rattle.model.specs.State.{serviceSound, serviceSoundAt, handleApart, removalRoom, collectedSound, resultsSound, removalSound, outstandingSound, sound, isOurs, ourHandle}
 use Rattle.model.proofs.Choice.{clash, both, join, every-at, every-make}
@@ -174,6 +175,7 @@ pub record Sound (s : List ℕ) : Type 0 where
   pub base : Base s (lastOf s)
   pub removal : Removes s (lastOf s)
   pub counts : Counts s
+  pub devices : devicesKeep s firstDeviceWord (devicesOf s) ≡ true
 
 -- what is known of the state that an accepted call is given
 pub record Given (s : List ℕ) : Type 0 where
@@ -282,6 +284,7 @@ module _ (s : List ℕ) where
       let t5 = both _ _ (t4 .1) in
       let t6 = both _ _ (t5 .1) in
       let t7 = both _ _ (t6 .1) in
+      let t8 = both _ _ (t7 .1) in
       record {
         base = record {
           few = leb-true _ mostBlocks (b1 .0);
@@ -290,12 +293,13 @@ module _ (s : List ℕ) where
           services = λ k h. every-at (λ k. serviceSoundAt s k) placeCount k (t3 .0) h;
           apart = apart-facts (t4 .0);
         };
-        removal = removes-facts (t7 .1);
+        removal = removes-facts (t8 .0);
         counts = record {
           lasts = leb-true _ _ (t5 .0);
           helds = leb-true _ _ (t6 .0);
           numbered = leb-true _ _ (t7 .0);
         };
+        devices = t8 .1;
       }
 
   pub sound-test : Sound s → sound s ≡ true
@@ -309,7 +313,7 @@ module _ (s : List ℕ) where
       (join _ _ (apart-test (b .apart))
       (join _ _ (le-leb _ _ (f .counts .lasts))
       (join _ _ (le-leb _ _ (f .counts .helds))
-      (join _ _ (le-leb _ _ (f .counts .numbered)) (removes-test (f .removal))))))))
+      (join _ _ (le-leb _ _ (f .counts .numbered)) (join _ _ (removes-test (f .removal)) (f .devices))))))))
 
 -- a later last number
 pub base-later : {s : List ℕ} {last : ℕ} (last′ : ℕ) → last ≤ last′ → Base s last → Base s last′

@@ -9,13 +9,15 @@ use lib.ListN.{length, getD, set, replicate, length-set, getD-replicate}
 use lib.Seq.{getD-set-same, getD-set-other, length-sets}
 use borrow.Author.Tests.{leb-true, eqb-true}
 use Rattle.model.specs.Choice.{pick, every, tabulate, _and_}
-use Rattle.model.specs.Layout.{outstandingOf, blocksOf, blockIn, blockAt, lastOf, heldOf, blockCountWord, blockWords, configuredPlace, firstBlockWord, firstPlace, firstStageWord, heldWord, lastWord, mostBlocks, outstandingWord, pagesPlace, permanentPlace, serviceWords, stateWords, noBlock}
-use Rattle.model.specs.Blocks.{blockKeeps, endBefore, blocksKeep, setupState, Lists, acceptedBlocks, acceptedLists, noLists, names, namedIn, namedBlock}
+use Rattle.model.specs.Layout.{outstandingOf, blocksOf, blockIn, blockAt, lastOf, heldOf, blockCountWord, blockWords, configuredPlace, firstBlockWord, firstPlace, firstStageWord, heldWord, lastWord, mostBlocks, outstandingWord, pagesPlace, permanentPlace, serviceWords, stateWords, noBlock, deviceWords, mostDevices, deviceConfiguredPlace, deviceCountWord, firstDeviceWord, noDevice, deviceIn, deviceAt, devicesOf}
+use Rattle.model.specs.Devices.{acceptedDevices, devicesKeep}
+use Rattle.model.specs.Blocks.{blockKeeps, endBefore, blocksKeep, withList, setupState, Lists, acceptedBlocks, acceptedLists, noLists, names, namedIn, namedBlock}
 use Rattle.model.specs.State.{sound}
-use Rattle.model.specs.Reading.{stageOf, channelsOf, servicesOf, blocksShown, removalShown, viewOf, setupView}
+use Rattle.model.specs.Reading.{stageOf, channelsOf, servicesOf, blocksShown, removalShown, viewOf, setupView, devicesShown, setupDevices}
 use Rattle.model.proofs.Choice.{both, every-at, tabulate-same, first-same}
 use Rattle.model.proofs.Words.{sets-below, sets-above, sets-at, removal-same}
 use Rattle.model.proofs.View.{channels-same, services-same}
+use Rattle.model.proofs.Devices.{SameWords, device-facts, name-few, flag-few, devices-keep, device-same}
 use Rattle.model.proofs.Rules.{sound-test, service-idle}
 use Rattle.model.proofs.Sounds.{removes-none}
 use Rattle.model.specs.Messages.{services}
@@ -37,38 +39,134 @@ whole-list l e =
       keeps = λ i h. every-at (λ i. blockKeeps (blockIn l 0 i) (endBefore l 0 i)) (length l / blockWords) i (q .1) h;
     }
 
-module _ (l : Lists) (f : Whole (l .blocks) (length (l .blocks) / blockWords)) where
+-- an accepted device list as facts
+pub record WholeDevices (l : List ℕ) (n : ℕ) : Type 0 where
+  pub whole : length l ≡ n * deviceWords
+  pub few : n ≤ mostDevices
+  pub keeps : devicesKeep l 0 n ≡ true
+
+pub whole-devices : (l : List ℕ) → acceptedDevices l ≡ true → WholeDevices l (length l / deviceWords)
+unfolding acceptedDevices
+whole-devices l e =
+    let p = both _ _ e in
+    record {
+      whole = omega (arith, eqb-true (length l % deviceWords) 0 (p .0));
+      few = device-facts l 0 (length l / deviceWords) (p .1) .few;
+      keeps = p .1;
+    }
+
+-- a list in the state, with its count before it
+module _ (s : List ℕ) (at words : ℕ) (l : List ℕ) where
+  counted : List ℕ
+  counted = set s at (length l / words)
+
+  list-length : length (withList s at words l) ≡ length s
+  unfolding withList counted
+  list-length = length-sets counted (at + 1) l ∙ length-set s at (length l / words)
+
+  list-below : (j : ℕ) → j < at → getD (withList s at words l) j 0 ≡ getD s j 0
+  unfolding withList counted
+  list-below j h = sets-below counted l (at + 1) j (omega arith) ∙ getD-set-other s at j (length l / words) 0 (λ q. omega arith)
+
+  list-above : (j : ℕ) → at + 1 + length l ≤ j → getD (withList s at words l) j 0 ≡ getD s j 0
+  unfolding withList counted
+  list-above j h = sets-above counted l (at + 1) j h ∙ getD-set-other s at j (length l / words) 0 (λ q. omega arith)
+
+  list-count : at < length s → getD (withList s at words l) at 0 ≡ length l / words
+  unfolding withList counted
+  list-count h = sets-below counted l (at + 1) at (omega arith) ∙ getD-set-same s at (length l / words) 0 h
+
+  list-word : (i : ℕ) → i < length l → at + 1 + length l ≤ length s → getD (withList s at words l) (at + 1 + i) 0 ≡ getD l i 0
+  unfolding withList counted
+  list-word i h n = sets-at counted l (at + 1) i h (omega (arith, length-set s at (length l / words)))
+
+-- both lists as facts
+pub record WholeLists (l : Lists) : Type 0 where
+  pub blocks : Whole (l .blocks) (length (l .blocks) / blockWords)
+  pub devices : WholeDevices (l .devices) (length (l .devices) / deviceWords)
+
+pub whole-lists : (l : Lists) → acceptedLists l ≡ true → WholeLists l
+unfolding acceptedLists
+whole-lists l e = let p = both _ _ e in record { blocks = whole-list (l .blocks) (p .0); devices = whole-devices (l .devices) (p .1) }
+
+module _ (l : Lists) (w : WholeLists l) where
+  f : Whole (l .blocks) (length (l .blocks) / blockWords)
+  f = w .blocks
+
   zeros : List ℕ
   zeros = replicate stateWords 0
 
-  z0 : List ℕ
-  z0 = set zeros blockCountWord (length (l .blocks) / blockWords)
+  -- the words with the blocks alone
+  listed : List ℕ
+  listed = withList zeros blockCountWord blockWords (l .blocks)
 
-  z0-length : length z0 ≡ stateWords
-  unfolding z0 zeros
-  z0-length = length-set (replicate stateWords 0) blockCountWord (length (l .blocks) / blockWords)
+  listed-length : length listed ≡ stateWords
+  unfolding listed zeros
+  listed-length = list-length zeros blockCountWord blockWords (l .blocks)
 
   pub setup-length : length (setupState l) ≡ stateWords
-  unfolding setupState z0 zeros
-  setup-length = length-sets z0 firstBlockWord (l .blocks) ∙ z0-length
+  unfolding setupState listed zeros
+  setup-length = list-length listed deviceCountWord deviceWords (l .devices) ∙ listed-length
 
-  -- all but the blocks' words is 0
+  -- below the devices
+  under : (j : ℕ) → j < deviceCountWord → getD (setupState l) j 0 ≡ getD listed j 0
+  unfolding setupState listed zeros
+  under j h = list-below listed deviceCountWord deviceWords (l .devices) j h
+
+  -- all but the lists' words is 0
   low : (j : ℕ) → j < blockCountWord → getD (setupState l) j 0 ≡ getD (replicate stateWords 0) j 0
-  unfolding setupState z0 zeros
-  low j h = sets-below z0 (l .blocks) firstBlockWord j (omega arith) ∙ getD-set-other zeros blockCountWord j (length (l .blocks) / blockWords) 0 (λ q. omega arith)
+  low j h = under j (omega arith) ∙ unfold listed zeros in (list-below zeros blockCountWord blockWords (l .blocks) j h)
 
-  pub high : (j : ℕ) → lastWord ≤ j → getD (setupState l) j 0 ≡ getD (replicate stateWords 0) j 0
-  unfolding setupState z0 zeros
-  high j h =
-      sets-above z0 (l .blocks) firstBlockWord j (omega (arith, f .whole, f .few)) ∙ getD-set-other zeros blockCountWord j (length (l .blocks) / blockWords) 0 (λ q. omega arith)
+  pub high : (j : ℕ) → lastWord ≤ j → j < deviceCountWord → getD (setupState l) j 0 ≡ getD (replicate stateWords 0) j 0
+  high j h g =
+      under j g ∙ unfold listed zeros in (list-above zeros blockCountWord blockWords (l .blocks) j (omega (arith, f .whole, f .few)))
 
   pub count : blocksOf (setupState l) ≡ length (l .blocks) / blockWords
-  unfolding setupState z0 zeros
-  count = sets-below z0 (l .blocks) firstBlockWord blockCountWord (omega arith) ∙ getD-set-same zeros blockCountWord (length (l .blocks) / blockWords) 0 (omega arith)
+  count = under blockCountWord (omega arith) ∙ unfold listed zeros in (list-count zeros blockCountWord blockWords (l .blocks) (omega arith))
 
   word : (i : ℕ) → i < length (l .blocks) → getD (setupState l) (firstBlockWord + i) 0 ≡ getD (l .blocks) i 0
-  unfolding setupState z0 zeros
-  word i h = sets-at z0 (l .blocks) firstBlockWord i h (omega (arith, z0-length, f .whole, f .few))
+  word i h =
+      under (firstBlockWord + i) (omega (arith, f .whole, f .few))
+      ∙ unfold listed zeros in (list-word zeros blockCountWord blockWords (l .blocks) i h (omega (arith, f .whole, f .few)))
+
+  -- the devices
+  pub device-count : devicesOf (setupState l) ≡ length (l .devices) / deviceWords
+  unfolding setupState listed zeros
+  device-count = list-count listed deviceCountWord deviceWords (l .devices) (omega (arith, listed-length))
+
+  device-word : (i : ℕ) → i < length (l .devices) → getD (setupState l) (firstDeviceWord + i) 0 ≡ getD (l .devices) i 0
+  unfolding setupState listed zeros
+  device-word i h =
+      list-word listed deviceCountWord deviceWords (l .devices) i h (omega (arith, listed-length, w .devices .whole, w .devices .few))
+
+  -- word j of device i
+  pub device-given : (i : ℕ) → i < length (l .devices) / deviceWords → (j : ℕ) → j < deviceWords → getD (setupState l) (firstDeviceWord + i * deviceWords + j) 0 ≡ getD (l .devices) (0 + i * deviceWords + j) 0
+  device-given i h j g =
+      ap (λ (x : ℕ). getD (setupState l) x 0) (omega arith)
+      ∙ device-word (0 + i * deviceWords + j) (omega (arith, w .devices .whole))
+
+  device-words : (i : ℕ) → i < length (l .devices) / deviceWords → SameWords (l .devices) (setupState l) 0 firstDeviceWord i
+  device-words i h j g n =
+      let short = name-few (l .devices) 0 i (device-facts (l .devices) 0 (length (l .devices) / deviceWords) (w .devices .keeps) .keeps i h) in
+      device-given i h j (omega arith)
+
+  device-flag : (i : ℕ) → i < length (l .devices) / deviceWords → deviceAt (setupState l) i .configured ≡ deviceIn (l .devices) 0 i .configured
+  unfolding deviceIn
+  device-flag i h = device-given i h deviceConfiguredPlace (omega arith)
+
+  setup-devices : devicesKeep (setupState l) firstDeviceWord (devicesOf (setupState l)) ≡ true
+  setup-devices =
+      rw device-count
+      (devices-keep (l .devices) (setupState l) 0 firstDeviceWord (length (l .devices) / deviceWords) device-words
+      (λ i h. rw (device-flag i h) (flag-few (l .devices) 0 i (device-facts (l .devices) 0 (length (l .devices) / deviceWords) (w .devices .keeps) .keeps i h)))
+      (w .devices .keeps))
+
+  setup-shown : devicesShown (setupState l) ≡ setupDevices l
+  unfolding devicesShown setupDevices
+  setup-shown =
+      rw device-count
+      (tabulate-same (deviceIn (l .devices) 0) (deviceAt (setupState l)) (length (l .devices) / deviceWords) noDevice
+      (λ i h. device-same (l .devices) (setupState l) 0 firstDeviceWord i (device-words i h) (device-flag i h)))
 
   pub block : (i : ℕ) → i < length (l .blocks) / blockWords → blockAt (setupState l) i ≡ blockIn (l .blocks) 0 i
   unfolding blockIn
@@ -106,8 +204,8 @@ module _ (l : Lists) (f : Whole (l .blocks) (length (l .blocks) / blockWords)) w
         channels-same (replicate stateWords 0) (setupState l) (λ j lo hi. low j (omega arith)),
         services-same (replicate stateWords 0) (setupState l) (λ j lo hi. low j (omega arith)),
         blocks,
-        high outstandingWord (omega arith),
-        removal-same (replicate stateWords 0) (setupState l) (λ j lo hi. high j (omega arith)),
+        high outstandingWord (omega arith) (omega arith),
+        removal-same (replicate stateWords 0) (setupState l) (λ j lo hi. high j (omega arith) (omega arith)),
       )
       (unfold channelsOf servicesOf removalShown stageOf tabulate pick in refl)
     where
@@ -125,12 +223,13 @@ module _ (l : Lists) (f : Whole (l .blocks) (length (l .blocks) / blockWords)) w
           services = λ k h. service-idle _ _ _ _ _ (none-low (firstStageWord + k * serviceWords) (omega arith));
           apart = λ j k i h p q r. q (none-low (firstStageWord + k * serviceWords) (omega arith));
         };
-        removal = removes-none (setupState l) _ (high outstandingWord (omega arith));
+        removal = removes-none (setupState l) _ (high outstandingWord (omega arith) (omega arith));
         counts = record {
-          lasts = rw (high lastWord (omega arith)) (omega arith);
-          helds = rw (high heldWord (omega arith)) (omega arith);
-          numbered = rw (high heldWord (omega arith)) (omega arith);
+          lasts = rw (high lastWord (omega arith) (omega arith)) (omega arith);
+          helds = rw (high heldWord (omega arith) (omega arith)) (omega arith);
+          numbered = rw (high heldWord (omega arith) (omega arith)) (omega arith);
         };
+        devices = setup-devices;
       })
 
 -- what holds of an accepted list's state
@@ -140,27 +239,28 @@ pub record Starts (l : Lists) : Type 0 where
   pub last : lastOf (setupState l) ≡ 0
   pub held : heldOf (setupState l) ≡ 0
   pub view : viewOf (setupState l) ≡ setupView l
+  pub devices : devicesShown (setupState l) ≡ setupDevices l
   pub outstanding : outstandingOf (setupState l) ≡ 0
   pub counted : blocksOf (setupState l) ≡ length (l .blocks) / blockWords
   pub given : (i : ℕ) → i < length (l .blocks) / blockWords → blockAt (setupState l) i ≡ blockIn (l .blocks) 0 i
   pub named : (addr size : ℕ) → namedBlock (setupState l) addr size ≡ namedIn (l .blocks) 0 (length (l .blocks) / blockWords) addr size
 
 pub starts : (l : Lists) → acceptedLists l ≡ true → Starts l
-unfolding acceptedLists
 starts l e =
-    let f = whole-list (l .blocks) e in
+    let f = whole-lists l e in
     record {
       size = setup-length l f;
       sounds = setup-sound l f;
-      last = high l f lastWord (omega arith);
-      held = high l f heldWord (omega arith);
+      last = high l f lastWord (omega arith) (omega arith);
+      held = high l f heldWord (omega arith) (omega arith);
       view = setup-view l f;
-      outstanding = high l f outstandingWord (omega arith);
+      devices = setup-shown l f;
+      outstanding = high l f outstandingWord (omega arith) (omega arith);
       counted = count l f;
       given = block l f;
       named = setup-named l f;
     }
 
 pub empty-accepted : acceptedLists noLists ≡ true
-unfolding acceptedLists acceptedBlocks blocksKeep every _and_
+unfolding acceptedLists acceptedBlocks blocksKeep acceptedDevices devicesKeep every _and_
 empty-accepted = refl

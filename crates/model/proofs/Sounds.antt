@@ -10,14 +10,16 @@ use lib.Dec.{eqb}
 use borrow.Author.Tests.{eqb-true, eqb-false, eq-eqb, not-true}
 use Rattle.model.specs.Choice.{pick, _and_}
 use Rattle.model.specs.declared.Removal.{Removal}
-use Rattle.model.specs.Layout.{readyAt, stageAt, handleAt, minorAt, blocksOf, Block, blockAt, outstandingOf, wordOf, removalOf, withChannel, withService, withConfigured, withCounts, withRemoval, withoutRemoval, blockCountWord, cancelledWord, channelCount, channelWords, firstBlockWord, firstHandleWord, firstMinorWord, firstStageWord, highestNumber, lastWord, mostBlocks, mostHeld, outstandingWord, placeCount, serviceCount, serviceWords, stateWords, stageIdle, firstNumberedWord, lastOf, heldOf, heldWord, withNumber}
+use Rattle.model.specs.Layout.{readyAt, stageAt, handleAt, minorAt, blocksOf, Block, blockAt, outstandingOf, wordOf, removalOf, withChannel, withService, withConfigured, withCounts, withRemoval, withoutRemoval, blockCountWord, cancelledWord, channelCount, channelWords, firstBlockWord, firstHandleWord, firstMinorWord, firstStageWord, highestNumber, lastWord, mostBlocks, mostHeld, outstandingWord, placeCount, serviceCount, serviceWords, stateWords, stageIdle, firstNumberedWord, lastOf, heldOf, heldWord, withNumber, deviceCountWord, devicesOf, firstDeviceWord}
+use Rattle.model.specs.Devices.{devicesKeep}
+use Rattle.model.proofs.Devices.{devices-same}
 use Rattle.model.specs.Blocks.{endOf, blockKeeps, endBefore, names, namedBlock}
 use Rattle.model.specs.State.{serviceSound, roomOf, removalRoom, sound, roomAt}
 use Rattle.model.specs.Reading.{flagged}
 use Rattle.model.proofs.Choice.{clash, first-same, first-facts}
 use Rattle.model.specs.declared.Found.{Found}
 use Rattle.model.specs.declared.Found.the-variants.{At, Nowhere}
-use Rattle.model.proofs.Words.{Agree, Arrays, service-frame, service-word, configured-frame, counts-frame, last-counts, held-counts, channel-frame, channel-ready, channel-zero, removal-frame, removal-same, removal-back, head-back, without-frame, number-frame}
+use Rattle.model.proofs.Words.{Agree, Arrays, service-frame, service-word, configured-frame, counts-frame, last-counts, held-counts, channel-frame, channel-ready, channel-zero, removal-frame, removal-same, removal-back, head-back, without-frame, number-frame, number-above}
 use Rattle.model.proofs.View.{block-same, flag-other, flag-here}
 use Rattle.model.proofs.Rules.{Base, Apart, block-rules, block-last, Removes, RemovalFacts, service-idle, Sound, sound-facts, sound-test}
 
@@ -334,8 +336,8 @@ pub removes-none : (s : List ℕ) (last : ℕ) → outstandingOf s ≡ 0 → Rem
 removes-none s last e o = absurd (clash _ (not-true _ o) (eq-eqb _ 0 e))
 
 -- An entry counted.
-pub sound-counted : (s : List ℕ) (last held : ℕ) → length s ≡ stateWords → Base s last → Removes s last → last ≤ highestNumber → held ≤ mostHeld → held ≤ last → sound (withCounts s last held) ≡ true
-sound-counted s last held n b r p q l =
+pub sound-counted : (s : List ℕ) (last held : ℕ) → length s ≡ stateWords → Base s last → Removes s last → devicesKeep s firstDeviceWord (devicesOf s) ≡ true → last ≤ highestNumber → held ≤ mostHeld → held ≤ last → sound (withCounts s last held) ≡ true
+sound-counted s last held n b r d p q l =
     let t : List ℕ = withCounts s last held in
     let e = counts-frame s last held in
     let x = last-counts s last held n in
@@ -345,22 +347,24 @@ sound-counted s last held n b r p q l =
       base = rw x (base-make′ e);
       removal = rw x (removes-same s (withCounts s last held) last (b .few) (λ j lo hi. e j (λ p q. omega arith)) (λ j lo hi. e j (λ p q. omega arith)) r);
       counts = record { lasts = rw x p; helds = rw y q; numbered = rw (x, y) l };
+      devices = devices-same s (withCounts s last held) (λ j lo hi. e j (λ p q. omega arith)) d;
     })
   where
     base-make′ : ((j : ℕ) → (lastWord ≤ j → j < outstandingWord → ⊥) → getD (withCounts s last held) j 0 ≡ getD s j 0) → Base (withCounts s last held) last
     base-make′ e = base-same s (withCounts s last held) last (λ j lo hi. e j (λ p q. omega arith)) b
 
 -- Only words of request numbers differ.
-pub sound-same : (s t : List ℕ) → Agree s t 0 firstNumberedWord → Sound s → Sound t
-sound-same s t a f =
+pub sound-same : (s t : List ℕ) → Agree s t 0 firstNumberedWord → Agree s t deviceCountWord stateWords → Sound s → Sound t
+sound-same s t a b f =
     let last : lastOf t ≡ lastOf s = a lastWord (omega arith) (omega arith) in
     let held : heldOf t ≡ heldOf s = a heldWord (omega arith) (omega arith) in
     record {
       base = rw last (base-same s t (lastOf s) (λ j lo hi. a j lo (omega arith)) (f .base));
       removal = rw last (removes-same s t (lastOf s) (f .base .few) (λ j lo hi. a j (omega arith) (omega arith)) (λ j lo hi. a j (omega arith) hi) (f .removal));
       counts = record { lasts = rw last (f .counts .lasts); helds = rw held (f .counts .helds); numbered = rw (last, held) (f .counts .numbered) };
+      devices = devices-same s t b (f .devices);
     }
 
-pub sound-numbers : (s : List ℕ) (c numbered highest : ℕ) → sound s ≡ true → sound (withNumber s c numbered highest) ≡ true
-sound-numbers s c numbered highest e =
-    sound-test (withNumber s c numbered highest) (sound-same s (withNumber s c numbered highest) (number-frame s c numbered highest) (sound-facts s e))
+pub sound-numbers : (s : List ℕ) (c numbered highest : ℕ) → c < channelCount → sound s ≡ true → sound (withNumber s c numbered highest) ≡ true
+sound-numbers s c numbered highest h e =
+    sound-test (withNumber s c numbered highest) (sound-same s (withNumber s c numbered highest) (number-frame s c numbered highest) (number-above s c numbered highest h) (sound-facts s e))

@@ -11,7 +11,7 @@ use lib.Dec.{ltb}
 use borrow.Author.Tests.{ltb-true, ltb-false}
 use Rattle.model.specs.Choice.{tabulate}
 use Rattle.model.specs.declared.Removal.{Removal}
-use Rattle.model.specs.Layout.{isSet, wordOf, removalOf, removalHead, withChannel, withService, withConfigured, withCounts, withRemoval, withoutRemoval, outstandingOf, cancelledOf, blockWords, cancelledWord, channelCount, channelWords, collectedWord, configuredPlace, countWord, firstAddressWord, firstBlockWord, firstResultWord, firstSizeWord, firstStageWord, heldWord, lastWord, mostRecords, outstandingWord, placeCount, positionWord, removalChannelWord, removalHandleWord, removalWords, requestWord, serviceWords, stateWords, headWords, firstNumberedWord, numberWords, withNumber, mostBlocks}
+use Rattle.model.specs.Layout.{isSet, wordOf, removalOf, removalHead, withChannel, withService, withConfigured, withCounts, withRemoval, withoutRemoval, outstandingOf, cancelledOf, blockWords, cancelledWord, channelCount, channelWords, collectedWord, configuredPlace, countWord, firstAddressWord, firstBlockWord, firstResultWord, firstSizeWord, firstStageWord, heldWord, lastWord, mostRecords, outstandingWord, placeCount, positionWord, removalChannelWord, removalHandleWord, removalWords, requestWord, serviceWords, stateWords, headWords, firstNumberedWord, numberWords, withNumber, mostBlocks, deviceConfiguredPlace, deviceCountWord, deviceWords, firstDeviceWord, mostDevices, withDevice}
 use Rattle.model.proofs.Choice.{tabulate-at, tabulate-length, tabulate-same}
 
 -- A run of stores: before it, after it, outside it, inside it.
@@ -332,3 +332,24 @@ number-frame s c numbered highest j lo hi = sets-below s (numbered ∷ highest �
 pub number-length : (s : List ℕ) (c numbered highest : ℕ) → length (withNumber s c numbered highest) ≡ length s
 unfolding withNumber
 number-length s c numbered highest = length-sets s (firstNumberedWord + c * numberWords) (numbered ∷ highest ∷ [])
+
+pub number-above : (s : List ℕ) (c numbered highest : ℕ) → c < channelCount → Agree s (withNumber s c numbered highest) deviceCountWord stateWords
+unfolding withNumber
+number-above s c numbered highest h j lo hi = sets-above s (numbered ∷ highest ∷ []) (firstNumberedWord + c * numberWords) j (omega arith)
+
+pub without-above : (s : List ℕ) (j : ℕ) → firstNumberedWord ≤ j → getD (withoutRemoval s) j 0 ≡ getD s j 0
+unfolding withoutRemoval
+without-above s j h = sets-above s (replicate removalWords 0) outstandingWord j h
+
+-- a device's flag
+pub device-frame : (s : List ℕ) (i flag : ℕ) → Frame s (withDevice s i flag) (firstDeviceWord + i * deviceWords + deviceConfiguredPlace) 1
+unfolding withDevice
+device-frame s i flag j n = getD-set-other s (firstDeviceWord + i * deviceWords + deviceConfiguredPlace) j flag 0 (λ q. n (omega arith) (omega arith))
+
+pub device-length : (s : List ℕ) (i flag : ℕ) → length (withDevice s i flag) ≡ length s
+unfolding withDevice
+device-length s i flag = length-set s (firstDeviceWord + i * deviceWords + deviceConfiguredPlace) flag
+
+pub device-word : (s : List ℕ) (i flag : ℕ) → length s ≡ stateWords → i < mostDevices → getD (withDevice s i flag) (firstDeviceWord + i * deviceWords + deviceConfiguredPlace) 0 ≡ flag
+unfolding withDevice
+device-word s i flag n h = getD-set-same s (firstDeviceWord + i * deviceWords + deviceConfiguredPlace) flag 0 (omega arith)

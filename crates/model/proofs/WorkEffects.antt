@@ -20,7 +20,8 @@ use Rattle.model.specs.Messages.{Effect, effect}
 use Rattle.model.specs.Work.{addrNow, sizeNow, blockNow, endCode, lateReply, ending, settled, collecting, pagesMoved, collects, worksOn, stepOf, working, WorkStep, failingCode, moving, worksAt}
 use Rattle.model.specs.Reading.{read, seeBlocks, seeRemoval, flagged, unconfiguredIn, steppedRemoval, addedPages, blocksShown, viewOf}
 use Rattle.model.proofs.Choice.{on-pick, join, or-false, every-at, every-make}
-use Rattle.model.proofs.Words.{Arrays, loaded-arrays, without-outstanding}
+use Rattle.model.proofs.Words.{Arrays, loaded-arrays, configured-frame, removal-above, without-above, without-outstanding}
+use Rattle.model.proofs.Devices.{noneAsked}
 use Rattle.model.proofs.View.{shape-moves, then, turns, configured-moves, removal-moves, without-moves}
 use Rattle.model.proofs.Rules.{RemovalFacts, block-rules}
 use Rattle.model.proofs.Turns.{Turn, steps, same-blocks, same-removal}
@@ -158,6 +159,7 @@ module _ (s : List ℕ) (g : Given s) (o : isSet (outstandingOf s) ≡ true) whe
         results = f .results;
       })
       (λ blocks removal. turn)
+      refl
       (collected-needs _ _ _ n (removing-shown s g o))
 
   -- the record at the position, with a block of the list and no more pages than it has
@@ -181,6 +183,7 @@ module _ (s : List ℕ) (g : Given s) (o : isSet (outstandingOf s) ≡ true) whe
       short-empty
       (settled-facts s DR-MEM-RES-NOWORK h nowork-result)
       (λ blocks removal. turn)
+      refl
       (settled-needs _ _ _ _ _ _ block (removing-shown s g o) (settles-here block 0 kb (omega arith)))
 
   -- 15, OK: the block's flag falls as well
@@ -205,6 +208,10 @@ module _ (s : List ℕ) (g : Given s) (o : isSet (outstandingOf s) ≡ true) whe
             (settled-facts (withConfigured s k 0) DR-MEM-RES-OK h ok-result);
         turn = turn;
         need = settled-needs _ _ _ _ _ n k (removing-shown s g o) (settles-here k n kb most);
+        devices =
+            noneAsked
+            (λ j lo hi. removal-above (withConfigured s k 0) (settled (removalOf s) DR-MEM-RES-OK) (w′ .size) (settled-arrays DR-MEM-RES-OK) j (omega arith) ∙ configured-frame s k 0 j (λ p q. omega arith))
+            refl;
       }
 
   -- 16
@@ -228,6 +235,7 @@ module _ (s : List ℕ) (g : Given s) (o : isSet (outstandingOf s) ≡ true) whe
     removal = removes-none (withoutRemoval s) (lastOf s + 1) (without-outstanding s (g .size));
     turn = turn;
     need = end-needs _ _ _ _ replied _ (removing-shown s g o);
+    devices = noneAsked (λ j lo hi. without-above s j (omega arith)) refl;
   }
 
   ending-good : Turn s (ending s (removalOf s)) → Good s (ending s (removalOf s))

@@ -1,4 +1,4 @@
--- "Blocks: 0 to 16, given at setup": the rules of a block list, setup's state, and the block that a pair names.
+-- "Blocks: 0 to 16, given at setup": the rules of a block list, the lists given at setup, its state, and the block that a pair names.
 -- Assumes nothing.
 use Prim.Native.Nat.{ℕ, zero, suc, _+_, _*_, _/_, _%_}
 use mathlib.Core.Bool.{Bool}
@@ -8,7 +8,8 @@ use lib.Seq.{sets}
 use lib.Dec.{leb, eqb}
 use Rattle.model.specs.declared.Found.{Found}
 use Rattle.model.specs.Choice.{pick, _and_, every, firstBelow}
-use Rattle.model.specs.Layout.{Block, blockIn, blocksOf, mostBlocks, blockWords, stateWords, blockCountWord, firstBlockWord}
+use Rattle.model.specs.Layout.{Block, blockIn, blocksOf, mostBlocks, blockWords, stateWords, blockCountWord, firstBlockWord, deviceWords, deviceCountWord}
+use Rattle.model.specs.Devices.{acceptedDevices}
 
 -- "A page is 8,192 bytes."
 abbrev pub pageSize : ℕ
@@ -54,21 +55,25 @@ blocksKeep l at n = leb n mostBlocks and every n (λ i. blockKeeps (blockIn l at
 unfoldable pub acceptedBlocks : List ℕ → Bool
 acceptedBlocks l = eqb (length l % blockWords) 0 and blocksKeep l 0 (length l / blockWords)
 
--- what the host gives at setup
+-- what the host gives at setup: the blocks, and the devices of 02, ticket 1
 pub record Lists : Type 0 where
   pub blocks : List ℕ
+  pub devices : List ℕ
 
 abbrev pub noLists : Lists
-noLists = record { blocks = [] }
+noLists = record { blocks = []; devices = [] }
 
 -- setup accepts the lists (else refusal 7)
 unfoldable pub acceptedLists : Lists → Bool
-acceptedLists l = acceptedBlocks (l .blocks)
+acceptedLists l = acceptedBlocks (l .blocks) and acceptedDevices (l .devices)
 
--- "Setup leaves all channels closed, nothing outstanding, the journal empty."
+-- "Setup leaves all channels closed, nothing outstanding, the journal empty." A list stands in the state with its count before it.
+unfoldable pub withList : List ℕ → ℕ → ℕ → List ℕ → List ℕ
+withList s at words l = sets (set s at (length l / words)) (at + 1) l
+
 unfoldable pub setupState : Lists → List ℕ
 setupState l =
-    sets (set (replicate stateWords 0) blockCountWord (length (l .blocks) / blockWords)) firstBlockWord (l .blocks)
+    withList (withList (replicate stateWords 0) blockCountWord blockWords (l .blocks)) deviceCountWord deviceWords (l .devices)
 
 -- "A pair names a block if addr is its base and size is all of it."
 unfoldable pub names : ℕ → ℕ → Block → Bool

@@ -12,7 +12,7 @@ use Rattle.model.specs.declared.Found.the-variants.{At, Nowhere}
 use Rattle.model.specs.declared.Message.{Message}
 use Rattle.model.specs.declared.Message.the-variants.{InitReq, RegReq, RegAck, RegNack, Unreg, UnregAck, UnregNack, Data, Nack, Bad}
 use Rattle.model.specs.declared.Route.{Route}
-use Rattle.model.specs.declared.Route.the-variants.{Memory, Host}
+use Rattle.model.specs.declared.Route.the-variants.{Memory, Devices, Host}
 use Rattle.model.specs.declared.Started.{Started}
 use Rattle.model.specs.Layout.{channelCount, serviceCount, mostBudget, entryWords, dataHeaderBytes, stageIdle, readyAt, placeOf, stageAt, lastOf, heldOf, outstandingOf, isSet, withCounts}
 use Rattle.model.specs.Blocks.{Lists, noLists, acceptedLists, setupState}
@@ -22,6 +22,7 @@ use Rattle.model.specs.Journal.{deliveredEvent, dataRefusedEvent, entryO
 use Rattle.model.specs.Messages.{DS-REG-REQ, DS-UNREG-ACK, DS-UNREG-NACK, DS-NACK, DS-REG-VER-NACK, DS-INV-HDL, Effect, effect, route, decoded, regNack, nack, offeredFor, registeredFor, liveFor, closing, noting, initiated, acknowledged, notAcknowledged, unregistered, offering, withdrawing}
 use Rattle.model.specs.Memory.{answeredMemory}
 use Rattle.model.specs.Work.{working}
+use Rattle.model.specs.DeviceRequests.{answeredDevice}
 
 -- The calls that add an entry, with their own arguments: channel and message; channel and service; channel; budget.
 pub data Action : Type 0 where
@@ -64,6 +65,7 @@ accepted s j out pages e = record {
 -- "DATA whose handle is registered on this channel reaches that service .. Otherwise the reply is NACK with the handle and result 3."
 unfoldable pub routed : List ℕ → ℕ → ℕ → List ℕ → ℕ → Route → Effect
 routed s c handle payload v Memory = answeredMemory s c handle payload
+routed s c handle payload v Devices = answeredDevice s c handle payload
 routed s c handle payload v Host = effect (deliveredEvent c v) s []
 
 unfoldable pub dataFor : List ℕ → ℕ → ℕ → List ℕ → Found → Effect
@@ -159,7 +161,7 @@ outcome s j (drain run) =
     (drained s j run (min (heldOf s) (length run / entryWords)))
     (refused s j run (drainRefusal s (length j)))
 
--- Setup: 7 where "the list is not whole blocks or breaks a rule above"; refused, it gives the state of the empty list.
+-- Setup: 7 where "the list is not whole blocks or breaks a rule above", and where the device list is refused (02, ticket 1); refused, it gives the state of empty lists.
 unfoldable pub started : Lists → Started
 started l =
     pick (acceptedLists l)
@@ -167,9 +169,10 @@ started l =
     (record { refusal = 7; state = setupState noLists })
 
 -- Show: "the part of its own message from byte 16 on, if it is well-formed DATA whose handle that sound state has registered there for
--- service 1, 2 or 3, else an empty part".
+-- service 1, 2 or 3, else an empty part"; 02, ticket 1: "show is empty" for service 1.
 unfoldable pub isHost : Route → Bool
 isHost Memory = false
+isHost Devices = false
 isHost Host = true
 
 unfoldable pub goesToHost : Found → Bool

@@ -13,7 +13,7 @@ use Rattle.model.specs.Demand3.{Done, runs, start, history, replyOf}
 
 -- "Blocks: A 0x10000000, 4 pages; B 0x20000000, 2 pages, first permanent 1, count 1; both configured."
 abbrev pub dayLists : Lists
-dayLists = record { blocks = 0x10000000 ∷ 4 ∷ 0 ∷ 0 ∷ 1 ∷ 0x20000000 ∷ 2 ∷ 1 ∷ 1 ∷ 1 ∷ [] }
+dayLists = record { blocks = 0x10000000 ∷ 4 ∷ 0 ∷ 0 ∷ 1 ∷ 0x20000000 ∷ 2 ∷ 1 ∷ 1 ∷ 1 ∷ []; devices = [] }
 
 abbrev pub dayOutput : List ℕ
 dayOutput = replicate outputBytes 0

@@ -19,7 +19,7 @@ use Rattle.model.specs.Blocks.{Lists}
 use Rattle.model.specs.Journal.{Entry, eventOf, entryAt, entriesAt, entriesIn, servedBy}
 use Rattle.model.specs.Messages.{DS-INV-HDL, DS-DATA, mostPayload, typeOf, payloadLength, nack}
 use Rattle.model.specs.Calls.{Call, act, drain, receive, Outcome, outcome, started}
-use Rattle.model.specs.Reading.{View, Stage, idle, offered, registered, viewOf, setupView, reading}
+use Rattle.model.specs.Reading.{View, Stage, idle, offered, registered, viewOf, setupView, reading, devicesShown, setupDevices, readingDevices}
 
 -- a call, and what it returned and left
 pub record Done : Type 0 where
@@ -97,7 +97,7 @@ unfoldable pub noted : Outcome → Event
 noted r = eventOf (unpacked (lastEntry r .first)) (lastEntry r .second)
 
 -- the service that data under a handle has reached, if any: "it has reached it if the reply is not the NACK named next and its entry is of
--- kind 8, or of 10 to 13 for service 0"
+-- kind 8, or of 10 to 13 for service 0", and by 02's tickets those that `servedBy` names
 unfoldable pub reached : ℕ → Outcome → Found
 reached handle r = pick (sameBytes (replyOf r) (nack handle DS-INV-HDL)) Nowhere (servedBy (noted r))
 
@@ -138,6 +138,8 @@ pub record Demand3 (l : Lists) (s j : List ℕ) (ds : List Done) (u : Run) : Typ
   pub atMost : heldOf (u .state) ≤ mostHeld
   -- "Read with that block list alone by 01's rules, they give back .. exactly as the last state has them."
   pub reads : reading (setupView l) (entries u) ≡ viewOf (u .state)
+  -- 02, ticket 1: "Demand 3, begun and read with any accepted device list too, also gives back each device's state."
+  pub readsDevices : readingDevices (setupDevices l) (entries u) ≡ devicesShown (u .state)
   -- "In each accepted receive of the list ..": at each place of the same list, of what that receive itself returned and left
   pub delivers :
       (before later : List Done) (c handle : ℕ) (m out : List ℕ) (r : Outcome) →

@@ -1,7 +1,7 @@
 -- The refusal numbers "are given in no other case", and so 8: a state as 01 tells it, the words that say it, and the claim that a sound one has words
 -- and that all words that say it are accepted, whatever those without a meaning in it hold.
 -- Assumes nothing.
-use Prim.Native.Nat.{ℕ, zero, suc, _/_, _≤_, _<_}
+use Prim.Native.Nat.{ℕ, zero, suc, _+_, _*_, _/_, _≤_, _<_}
 use mathlib.Core.Path.{_≡_}
 use mathlib.Core.Bool.{Bool, true}
 use mathlib.Core.List.{List}
@@ -11,12 +11,13 @@ use Rattle.model.specs.Choice.{pick, tabulate, firstBelow}
 use Rattle.model.specs.declared.Found.{Found}
 use Rattle.model.specs.declared.Found.the-variants.{At}
 use Rattle.model.specs.declared.Removal.{Removal}
-use Rattle.model.specs.Layout.{channelCount, serviceCount, placeCount, mostRecords, mostHeld, highestNumber, highestMinor, stageIdle, stageOffered, stageRegistered, blockWords, stateWords, readyAt, stageAt, handleAt, minorAt, blocksOf, blockIn, blockAt, lastOf, heldOf, outstandingOf, cancelledOf, wordOf, removalOf, withService, withCounts, withRemoval}
+use Rattle.model.specs.Layout.{channelCount, serviceCount, placeCount, mostRecords, mostHeld, highestNumber, highestMinor, stageIdle, stageOffered, stageRegistered, blockWords, stateWords, readyAt, stageAt, handleAt, minorAt, blocksOf, blockIn, blockAt, lastOf, heldOf, outstandingOf, cancelledOf, wordOf, removalOf, withService, withCounts, withRemoval, deviceWords, namePlace, firstDeviceWord, devicesOf, nameBytesIn}
+use Rattle.model.specs.Devices.{wordsHolding}
 use Rattle.model.specs.Blocks.{Lists, acceptedLists, setupState, names}
 use Rattle.model.specs.State.{sound}
 use Rattle.model.specs.Reading.{Stage, idle, offered, registered}
 
--- "What the agent holds", without words, but for request numbers, of which soundness says nothing. The lists are those of setup's form, with each block configured or not as it now is.
+-- "What the agent holds", without words, but for request numbers, of which soundness says nothing. The lists are those of setup's form, with each block and device configured or not as it now is.
 pub record Told : Type 0 where
   pub ready : ℕ → Bool
   pub service : ℕ → Stage
@@ -64,9 +65,10 @@ pub record RemovalTold (l : List ℕ) (last : ℕ) (m : Removal) : Type 0 where
   pub results : (i : ℕ) → i < m .position → ResultTold (getD (m .result) i 0)
 
 -- "A state is sound if its blocks keep these rules; services on closed channels are idle; live handles differ and lie between 1 and the last
--- entry number used ..": 01's sentence, and what the numbers can be: a minor version has 16 bits, a settled record's result is OK or NOWORK.
+-- entry number used ..": 01's sentence, and what the numbers can be: a minor version has 16 bits, a settled record's result is OK or NOWORK. By 02, ticket 1, its
+-- devices keep their rules too.
 pub record SoundTold (t : Told) : Type 0 where
-  pub blocks : acceptedLists (t .lists) ≡ true
+  pub lists : acceptedLists (t .lists) ≡ true
   pub onReady : (k handle : ℕ) → k < placeCount → LiveAs (t .service k) handle → t .ready (k / serviceCount) ≡ true
   pub least : (k handle : ℕ) → k < placeCount → LiveAs (t .service k) handle → 1 ≤ handle
   pub most : (k handle : ℕ) → k < placeCount → LiveAs (t .service k) handle → handle ≤ t .last
@@ -107,6 +109,14 @@ pub record Says (s : List ℕ) (t : Told) : Type 0 where
   pub service : (k : ℕ) → k < placeCount → SaysService (stageAt s k) (handleAt s k) (minorAt s k) (t .service k)
   pub count : blocksOf s ≡ length (t .lists .blocks) / blockWords
   pub block : (i : ℕ) → i < length (t .lists .blocks) / blockWords → blockAt s i ≡ blockIn (t .lists .blocks) 0 i
+  -- the words that say a device: all up to the last that holds its name
+  pub devices : devicesOf s ≡ length (t .lists .devices) / deviceWords
+  pub device :
+      (i : ℕ) →
+      i < length (t .lists .devices) / deviceWords →
+      (j : ℕ) →
+      j < namePlace + wordsHolding (nameBytesIn (t .lists .devices) 0 i) →
+      getD s (firstDeviceWord + i * deviceWords + j) 0 ≡ getD (t .lists .devices) (0 + i * deviceWords + j) 0
   pub last : lastOf s ≡ t .last
   pub held : heldOf s ≡ t .held
   pub outstanding : outstandingOf s ≡ wordOf (t .outstanding)

@@ -9,8 +9,9 @@
 --   its channel, handle, request number, count of records, position, pages collected
 --   the records' addresses; their sizes; the settled records' results: 0 OK, 4 NOWORK
 --   channel c: 0 if no memory request of right form came since service 0 was last registered there, else the next word is the highest number of those
+--   the number of devices; device i: id, configured (0 or 1), busy (0 or 1), the bytes of its name with the zero, the words of its name
 -- Assumes nothing.
-use Prim.Native.Nat.{ℕ, _+_, _-_, _*_}
+use Prim.Native.Nat.{ℕ, _+_, _-_, _*_, _/_, _%_, _^_}
 use mathlib.Core.Bool.{Bool, true, false, not}
 use mathlib.Core.List.{List, [], _∷_}
 use lib.ListN.{getD, set, replicate}
@@ -33,6 +34,10 @@ serviceCount = 4
 abbrev pub memoryService : ℕ
 memoryService = 0
 
+-- the virtual devices' service, `dr-vio`
+abbrev pub deviceService : ℕ
+deviceService = 1
+
 -- the services of all channels
 abbrev pub placeCount : ℕ
 placeCount = channelCount * serviceCount
@@ -48,6 +53,13 @@ mostLooked = halvings mostBlocks
 -- "1 to 16 records"
 abbrev pub mostRecords : ℕ
 mostRecords = 16
+
+-- 02, ticket 1: "up to 32 devices", "name of at most 256 bytes with its zero"
+abbrev pub mostDevices : ℕ
+mostDevices = 32
+
+abbrev pub mostNameBytes : ℕ
+mostNameBytes = 256
 
 -- "at most 64 entries are held"
 abbrev pub mostHeld : ℕ
@@ -97,6 +109,16 @@ statusBytes = 16
 
 abbrev pub queryBytes : ℕ
 queryBytes = 40
+
+-- a request of the virtual devices' service before its message type, and before its name; and its response, whose reason is one zero byte
+abbrev pub deviceNumberBytes : ℕ
+deviceNumberBytes = 16
+
+abbrev pub deviceHeaderBytes : ℕ
+deviceHeaderBytes = 20
+
+abbrev pub deviceReplyBytes : ℕ
+deviceReplyBytes = 17
 
 abbrev pub outputBytes : ℕ
 outputBytes = replyHeaderBytes + mostRecords * queryBytes
@@ -201,8 +223,36 @@ firstNumberedWord = firstResultWord + mostRecords
 abbrev pub firstHighestWord : ℕ
 firstHighestWord = firstNumberedWord + 1
 
+-- a device's words: its id, and at these places configured, busy, the bytes of its name, and the words that hold the name, eight bytes each
+abbrev pub deviceConfiguredPlace : ℕ
+deviceConfiguredPlace = 1
+
+abbrev pub busyPlace : ℕ
+busyPlace = 2
+
+abbrev pub nameBytesPlace : ℕ
+nameBytesPlace = 3
+
+abbrev pub namePlace : ℕ
+namePlace = 4
+
+abbrev pub wordBytes : ℕ
+wordBytes = 8
+
+abbrev pub nameWords : ℕ
+nameWords = mostNameBytes / wordBytes
+
+abbrev pub deviceWords : ℕ
+deviceWords = namePlace + nameWords
+
+abbrev pub deviceCountWord : ℕ
+deviceCountWord = firstNumberedWord + channelCount * numberWords
+
+abbrev pub firstDeviceWord : ℕ
+firstDeviceWord = deviceCountWord + 1
+
 abbrev pub stateWords : ℕ
-stateWords = firstNumberedWord + channelCount * numberWords
+stateWords = firstDeviceWord + mostDevices * deviceWords
 
 -- the words of a removal, outstanding or not
 abbrev pub removalWords : ℕ
@@ -274,6 +324,43 @@ blockIn l at i = record {
 abbrev pub blockAt : List ℕ → ℕ → Block
 blockAt s i = blockIn s firstBlockWord i
 
+-- 02, ticket 1: "device id, name .. with its zero, state, and a busy mark that never changes"; the name as bytes
+pub record Device : Type 0 where
+  pub id : ℕ
+  pub configured : ℕ
+  pub busy : ℕ
+  pub name : List ℕ
+
+-- where there is none
+abbrev pub noDevice : Device
+noDevice = record { id = 0; configured = 0; busy = 0; name = [] }
+
+-- byte k of a word, the most significant is byte 0
+unfoldable pub wordByte : ℕ → ℕ → ℕ
+wordByte w k = w / 256 ^ (wordBytes - 1 - k) % 256
+
+-- Of device i of those whose words stand in l from at on: how many bytes its name has, byte k of the words that hold it, and the device.
+abbrev pub nameBytesIn : List ℕ → ℕ → ℕ → ℕ
+nameBytesIn l at i = getD l (at + i * deviceWords + nameBytesPlace) 0
+
+unfoldable pub nameByteIn : List ℕ → ℕ → ℕ → ℕ → ℕ
+nameByteIn l at i k = wordByte (getD l (at + i * deviceWords + namePlace + k / wordBytes) 0) (k % wordBytes)
+
+unfoldable pub deviceIn : List ℕ → ℕ → ℕ → Device
+deviceIn l at i = record {
+  id = getD l (at + i * deviceWords) 0;
+  configured = getD l (at + i * deviceWords + deviceConfiguredPlace) 0;
+  busy = getD l (at + i * deviceWords + busyPlace) 0;
+  name = tabulate (nameByteIn l at i) (nameBytesIn l at i);
+}
+
+-- the number of the state's devices, and device i
+abbrev pub devicesOf : List ℕ → ℕ
+devicesOf s = getD s deviceCountWord 0
+
+abbrev pub deviceAt : List ℕ → ℕ → Device
+deviceAt s i = deviceIn s firstDeviceWord i
+
 -- a word as a test, and a test as a word
 abbrev pub isSet : ℕ → Bool
 isSet n = not (eqb n 0)
@@ -331,3 +418,7 @@ withoutRemoval s = sets s outstandingWord (replicate removalWords 0)
 -- channel c's highest request number (numbered 1), or none (0)
 unfoldable pub withNumber : List ℕ → ℕ → ℕ → ℕ → List ℕ
 withNumber s c numbered highest = sets s (firstNumberedWord + c * numberWords) (numbered ∷ highest ∷ [])
+
+-- device i configured (1) or unconfigured (0)
+unfoldable pub withDevice : List ℕ → ℕ → ℕ → List ℕ
+withDevice s i flag = set s (firstDeviceWord + i * deviceWords + deviceConfiguredPlace) flag

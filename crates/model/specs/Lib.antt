@@ -1,5 +1,6 @@
 pub mod Choice
 pub mod Layout
+pub mod Devices
 pub mod Blocks
 pub mod Search
 pub mod State
@@ -8,6 +9,7 @@ pub mod Journal
 pub mod Messages
 pub mod Memory
 pub mod Work
+pub mod DeviceRequests
 pub mod Calls
 pub mod Reading
 pub mod Demand3

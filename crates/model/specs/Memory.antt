@@ -12,7 +12,7 @@ use Rattle.model.specs.declared.Found.the-variants.{At, Nowhere}
 use Rattle.model.specs.declared.Removal.{Removal}
 use Rattle.model.specs.declared.Request.{Request}
 use Rattle.model.specs.declared.Request.the-variants.{Configure, Unconfigure, Query, Status, Cancel, Malformed}
-use Rattle.model.specs.Layout.{mostRecords, memoryHeaderBytes, pairBytes, blockAt, outstandingOf, numberedAt, highestAt, isSet, removalOf, withConfigured, withRemoval, withNumber}
+use Rattle.model.specs.Layout.{memoryService, mostRecords, memoryHeaderBytes, pairBytes, blockAt, outstandingOf, numberedAt, highestAt, isSet, removalOf, withConfigured, withRemoval, withNumber}
 use Rattle.model.specs.Blocks.{pageSize, namedBlock}
 use Rattle.model.specs.Journal.{codeNone, codeError, codeBlocked, answeredEvent, configuredEvent, begunEvent, cancelledEvent}
 use Rattle.model.specs.Messages.{Effect, effect, dsData}
@@ -141,7 +141,7 @@ queryRecord s addr size =
 
 -- a request that changes nothing, answered
 unfoldable pub answering : List ℕ → ℕ → ℕ → ℕ → List ℕ → Effect
-answering s c code request reply = effect (answeredEvent c code request) s reply
+answering s c code request reply = effect (answeredEvent c memoryService code request) s reply
 
 -- "ERROR 0x65, argument 0, the same req_num .., no more."
 unfoldable pub answeringError : List ℕ → ℕ → ℕ → ℕ → Effect

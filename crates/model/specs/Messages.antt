@@ -10,10 +10,10 @@ use Rattle.model.specs.Choice.{pick, _and_, every, firstBelow}
 use Rattle.model.specs.declared.Found.{Found}
 use Rattle.model.specs.declared.Found.the-variants.{At, Nowhere}
 use Rattle.model.specs.declared.Route.{Route}
-use Rattle.model.specs.declared.Route.the-variants.{Memory, Host}
+use Rattle.model.specs.declared.Route.the-variants.{Memory, Devices, Host}
 use Rattle.model.specs.declared.Message.{Message}
 use Rattle.model.specs.declared.Message.the-variants.{InitReq, RegReq, RegAck, RegNack, Unreg, UnregAck, UnregNack, Data, Nack, Bad}
-use Rattle.model.specs.Layout.{serviceCount, memoryService, dsHeaderBytes, stageIdle, stageOffered, stageRegistered, placeOf, stageAt, handleAt, lastOf, withChannel, withService, withNumber}
+use Rattle.model.specs.Layout.{serviceCount, memoryService, deviceService, dsHeaderBytes, stageIdle, stageOffered, stageRegistered, placeOf, stageAt, handleAt, lastOf, withChannel, withService, withNumber}
 use Rattle.model.specs.State.{ourHandle}
 use Rattle.model.specs.declared.Event.{Event}
 use Rattle.model.specs.Journal.{readyEvent, closedEvent, versionRefusedEvent, offeredEvent, registeredEvent, offerRefusedEvent, serviceEndedEvent, notedEvent}
@@ -46,9 +46,9 @@ noService = record { id = []; major = 0; minor = 0 }
 abbrev pub serviceOf : ℕ → Service
 serviceOf v = getD services v noService
 
--- "Service 0 is answered inside; data for the others goes to the host."
+-- "Service 0 is answered inside; data for the others goes to the host." 02, ticket 1: "Answer `dr-vio` inside".
 unfoldable pub route : ℕ → Route
-route v = pick (eqb v memoryService) Memory Host
+route v = pick (eqb v memoryService) Memory (pick (eqb v deviceService) Devices Host)
 
 -- Types of messages.
 abbrev pub DS-INIT-REQ : ℕ

@@ -11,7 +11,7 @@ use Rattle.wire.specs.BigEndian.{bytesOf}
 use Rattle.wire.proofs.Laws.{sets-whole}
 use Rattle.model.specs.Choice.{pick, joined}
 use Rattle.model.specs.declared.Event.{Event}
-use Rattle.model.specs.Layout.{mostRecords, outputBytes, queryBytes, replyHeaderBytes}
+use Rattle.model.specs.Layout.{memoryService, mostRecords, outputBytes, queryBytes, replyHeaderBytes}
 use Rattle.model.specs.Blocks.{namedBlock}
 use Rattle.model.specs.Journal.{codeNone, answeredEvent, stored}
 use Rattle.model.specs.Memory.{DR-MEM-OK, addrIn, answering, permanentBytes, permanentFirst, permanentRange, queryRecord, querying, sizeIn}
@@ -41,7 +41,7 @@ query-stored s part addr size {bytes} {first} {p₃ = p₃} long r e₁ e₂ e�
     stored = unfold queryRecord bytesOf in rw (e₃, e₂, e₁, r .0, r .1)
 
 -- the headers and the records are the reply
-pub query-handles : (s b out : List ℕ) (c handle request n : ℕ) {out₁ out₂ : List ℕ} {e : Event} → n ≤ mostRecords → outputBytes ≤ length out → e ≡ answeredEvent c codeNone request → out₁ ≡ sets out 0 (memoryHeader handle DR-MEM-OK n request (n * queryBytes)) → out₂ ≡ sets out₁ replyHeaderBytes (joined (λ i. queryRecord s (addrIn b i) (sizeIn b i)) n) → Handles (querying s c handle request b n) out (replyHeaderBytes + n * queryBytes) e s out₂
+pub query-handles : (s b out : List ℕ) (c handle request n : ℕ) {out₁ out₂ : List ℕ} {e : Event} → n ≤ mostRecords → outputBytes ≤ length out → e ≡ answeredEvent c memoryService codeNone request → out₁ ≡ sets out 0 (memoryHeader handle DR-MEM-OK n request (n * queryBytes)) → out₂ ≡ sets out₁ replyHeaderBytes (joined (λ i. queryRecord s (addrIn b i) (sizeIn b i)) n) → Handles (querying s c handle request b n) out (replyHeaderBytes + n * queryBytes) e s out₂
 unfolding querying answering
 query-handles s b out c handle request n few room e h w =
     let f : ℕ → List ℕ = λ i. queryRecord s (addrIn b i) (sizeIn b i) in

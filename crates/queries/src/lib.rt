@@ -2,6 +2,7 @@
 use model::DR_MEM_OK;
 use model::Found;
 use model::Handled;
+use model::MEMORY_SERVICE;
 use model::QUERY_BYTES;
 use model::REPLY_HEADER_BYTES;
 use model::State;
@@ -111,6 +112,6 @@ pub fn query(
     put_query_records(state, b, n, out);
     Handled {
         length: REPLY_HEADER_BYTES + n * QUERY_BYTES,
-        event: events::answered(channel, events::CODE_NONE, request),
+        event: events::answered(channel, MEMORY_SERVICE as u64, events::CODE_NONE, request),
     }
 }

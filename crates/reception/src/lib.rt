@@ -31,7 +31,7 @@ fn hears(ready: bool, message: Message) -> bool
     }
 }
 
-// Data for a registered service: to the memory service, or to the host.
+// Data for a registered service: to the memory service, to the virtual devices', or to the host.
 fn deliver(
     state: &mut State,
     channel: usize,
@@ -46,6 +46,7 @@ fn deliver(
     let route = services::route(service);
     match route {
         Route::Memory => memory::answer(state, channel as u64, handle, payload, out),
+        Route::Devices => devices::answer(state, channel as u64, handle, payload, out),
         Route::Host => Handled {
             length: 0,
             event: events::delivered(channel as u64, service as u64),
@@ -148,6 +149,7 @@ fn is_host(route: Route) -> bool
 {
     match route {
         Route::Memory => false,
+        Route::Devices => false,
         Route::Host => true,
     }
 }

@@ -1,4 +1,5 @@
 // The table of the services, where the data for each goes, and the DS messages that the agent sends.
+use model::DEVICE_SERVICE;
 use model::DS_INIT_ACK;
 use model::DS_INIT_NACK;
 use model::DS_NACK;
@@ -93,12 +94,15 @@ pub fn minor(service: usize) -> u64
     row.minor as u64
 }
 
-// "Service 0 is answered inside; data for the others goes to the host."
+// "Service 0 is answered inside; data for the others goes to the host." "Answer `dr-vio` inside".
 pub fn route(service: usize) -> Route
     ensures { λ r. ⌜ r ≡ route service ⌝ }
 {
     if service == MEMORY_SERVICE {
         return Route::Memory;
+    }
+    if service == DEVICE_SERVICE {
+        return Route::Devices;
     }
     Route::Host
 }

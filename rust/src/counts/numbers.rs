@@ -1,10 +1,8 @@
-//! What the numbers of memory requests met, on a host that is given the calls
-//! of the list too.
+//! What the numbers of memory requests met.
 
 use super::memory_name;
-use crate::lines::{Call, Host};
 use crate::memory::{request_number, Request};
-use crate::state::{Service, State, CHANNELS};
+use crate::state::{Channel, Service, State, CHANNELS};
 use crate::wire::{self, get32, Message};
 
 /// The members of the groups `number refused` (beside those of each request),
@@ -23,32 +21,32 @@ struct Seen {
     bad_form: Option<u64>,
 }
 
+/// What a state before a message has to do with its number.
+pub struct Before {
+    channels: [Channel; CHANNELS],
+    highest: [Option<u64>; CHANNELS],
+    outstanding: bool,
+}
+
+impl Before {
+    pub fn of(state: &State) -> Before {
+        Before {
+            channels: state.channels,
+            highest: state.highest,
+            outstanding: state.removal.is_some(),
+        }
+    }
+}
+
+/// The numbers since setup.
 #[derive(Default)]
 pub struct Numbers {
-    host: Host,
-    /// The host's answers, which are not kept.
-    answer: Vec<u8>,
     seen: [Seen; CHANNELS],
 }
 
 impl Numbers {
-    /// Performs a call; gives the names of what a request's number met.
-    pub fn call(&mut self, call: &Call) -> Vec<String> {
-        let before = self.host.state;
-        self.answer.clear();
-        self.host.perform(call, &mut self.answer);
-        match *call {
-            Call::Setup(_) => self.seen = Default::default(),
-            Call::Receive(channel, ref message) if self.host.state.last > before.last => {
-                return self.received(&before, channel as usize, message);
-            }
-            _ => {}
-        }
-        Vec::new()
-    }
-
-    /// An accepted message.
-    fn received(&mut self, before: &State, at: usize, message: &[u8]) -> Vec<String> {
+    /// The names of what the number of an accepted message met.
+    pub fn received(&mut self, before: &Before, at: usize, message: &[u8]) -> Vec<String> {
         let channel = &before.channels[at];
         match wire::parse(message) {
             Some(Message::RegAck { handle, .. }) if channel.offered(handle) == Some(0) => {
@@ -65,7 +63,7 @@ impl Numbers {
     }
 
     /// Data that reached service 0.
-    fn data(&mut self, before: &State, at: usize, data: &[u8]) -> Vec<String> {
+    fn data(&mut self, before: &Before, at: usize, data: &[u8]) -> Vec<String> {
         let number = request_number(data);
         let seen = &mut self.seen[at];
         let Some(request) = Request::read(data) else {
@@ -78,7 +76,7 @@ impl Numbers {
                 let how = if number == highest { "equal" } else { "lower" };
                 let mut names = vec![format!("number refused {asked} {how}")];
                 let blocked = matches!(request, Request::Configure(_) | Request::Unconfigure(_));
-                if blocked && before.removal.is_some() {
+                if blocked && before.outstanding {
                     names.push(format!("number refused {REFUSED}"));
                 }
                 names
@@ -89,7 +87,7 @@ impl Numbers {
 }
 
 /// The names for a number that is the first or above the highest.
-fn accepted(before: &State, at: usize, number: u64, seen: &Seen) -> Vec<String> {
+fn accepted(before: &Before, at: usize, number: u64, seen: &Seen) -> Vec<String> {
     let registered = |channel: usize| {
         let service = before.channels[channel].services[0];
         matches!(service, Service::Registered { .. })

@@ -12,12 +12,15 @@ use crate::{build, memory, wire};
 /// An action, its weight, and whether it tends to undo what was built up.
 type Action = (fn(&mut Generator), u64, bool);
 
-pub(super) const ACTIONS: [Action; 20] = [
+pub(super) const ACTIONS: [Action; 23] = [
     (Generator::prepare, 30, false),
     (Generator::prepare_memory, 20, false),
     (Generator::good_memory, 30, false),
     (Generator::bad_memory, 6, false),
     (Generator::removal, 60, false),
+    (Generator::device, 30, false),
+    (Generator::damaged_device, 8, false),
+    (Generator::odd_device_line, 1, false),
     (Generator::host_data, 8, false),
     (Generator::show, 4, false),
     (Generator::stray_data, 4, false),
@@ -48,7 +51,7 @@ impl Generator {
         messages::handle(&mut self.random, &self.host.state, channel)
     }
 
-    fn pick_live(&mut self, fits: impl Fn(&Live) -> bool) -> Option<Live> {
+    pub(super) fn pick_live(&mut self, fits: impl Fn(&Live) -> bool) -> Option<Live> {
         messages::pick_live(&mut self.random, &self.host.state, fits)
     }
 
@@ -82,9 +85,14 @@ impl Generator {
 
     /// Registers `dr-mem` on a channel, step by step.
     fn prepare_memory(&mut self) {
+        self.register(0);
+    }
+
+    /// Registers a service on a channel, step by step.
+    pub(super) fn register(&mut self, service: u64) {
         let channel = self.channel();
         for _ in 0..3 {
-            self.towards(channel, 0);
+            self.towards(channel, service);
         }
     }
 

@@ -1,5 +1,6 @@
 //! Random messages: well-formed ones of every type, and damaged ones.
 
+use super::devices;
 use super::random::Random;
 use crate::block::{Block, Pair, PAGE};
 use crate::removal::MAX_RECORDS;
@@ -76,7 +77,7 @@ fn id(random: &mut Random) -> Vec<u8> {
 /// A message of a random type that is mostly well formed.
 pub fn any(random: &mut Random, state: &State, channel: u64) -> Vec<u8> {
     let handle = handle(random, state, channel);
-    match random.below(10) {
+    match random.below(11) {
         0 => init_req(random),
         1 => reg_req(random, handle),
         2 | 3 => registration(random, handle),
@@ -86,6 +87,10 @@ pub fn any(random: &mut Random, state: &State, channel: u64) -> Vec<u8> {
         8 => {
             let message = good_memory(random, state, channel);
             build::data(handle, &message)
+        }
+        9 => {
+            let number = random.below(4);
+            build::data(handle, &devices::request(random, state, number))
         }
         _ => {
             let message = bad_memory(random, state, channel);

@@ -2,6 +2,7 @@
 //! it knows the state and can choose what is likely to matter next.
 
 mod actions;
+mod devices;
 mod messages;
 pub(crate) mod noise;
 pub mod random;
@@ -93,6 +94,8 @@ pub(crate) struct Generator {
     /// No calls are added once there are so many.
     stop: u64,
     mixture: Mixture,
+    /// The number of the last device request.
+    device_number: u64,
     /// Calls until the sizes are the usual ones again.
     odd_sizes_left: u64,
     calls_at_state: u64,
@@ -110,6 +113,7 @@ impl Generator {
             calls: 0,
             // One is left for the last drain.
             stop: calls.saturating_sub(1),
+            device_number: 0,
             odd_sizes_left: 0,
             calls_at_state: 0,
         }
@@ -131,10 +135,10 @@ impl Generator {
         self.perform(&call);
     }
 
-    /// Counts a call; false if there are enough. `state` and the sizes do not
-    /// count.
+    /// Counts a call; false if there are enough. Lines that are no calls of
+    /// the agent do not count.
     fn count(&mut self, call: &Call) -> bool {
-        if matches!(call, Call::State | Call::Output(_) | Call::Journal(_)) {
+        if !call.is_counted() {
             return true;
         }
         let room = self.calls < self.stop;
@@ -174,7 +178,8 @@ impl Generator {
             self.odd_sizes();
         }
         let words = setups::good(&mut self.random);
-        self.call(Call::Setup(words));
+        let devices = devices::good(&mut self.random);
+        self.set_up(words, devices);
         let end = self.stop.min(self.calls + self.mixture.length);
         while self.calls < end {
             self.step();
@@ -184,10 +189,16 @@ impl Generator {
         }
     }
 
-    /// A setup that is refused, and some calls on the empty state.
+    /// A setup that is refused for its blocks, its devices or both, and some
+    /// calls on the empty state.
     fn refused_setup(&mut self) {
-        let words = setups::bad(&mut self.random);
-        self.call(Call::Setup(words));
+        let random = &mut self.random;
+        let (blocks, devices) = match random.weighted(&[45, 50, 5]) {
+            0 => (setups::bad(random), devices::good(random)),
+            1 => (setups::good(random), devices::bad(random)),
+            _ => (setups::bad(random), devices::bad(random)),
+        };
+        self.set_up(blocks, devices);
         self.show_state();
         for _ in 0..self.random.pick(&[0, 0, 1, 3, 10]) {
             self.step();

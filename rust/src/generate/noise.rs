@@ -3,7 +3,7 @@
 use super::random::Random;
 use crate::lines::MAX_LINE;
 
-pub const ODD: [&[u8]; 61] = [
+pub const ODD: [&[u8]; 66] = [
     b"",
     b"\r",
     b" \r",
@@ -64,6 +64,11 @@ pub const ODD: [&[u8]; 61] = [
     b"show 1 abc",
     b"state 1",
     b"setup ",
+    b"Device 1 0 0 00",
+    b" device 1 0 0 00",
+    b"devices 1 0 0 00",
+    b"device 1 0 0 00\r",
+    b"device\t1 0 0 00",
     b"setup 0 1  0 0 0",
 ];
 

@@ -25,6 +25,12 @@ pub fn write_call(call: &Call, random: &mut Random, text: &mut Vec<u8>) {
             write_number(size as u64, random, text);
         }
         Call::State => {}
+        Call::Device(ref device) => {
+            for number in [device.id, device.configured, device.busy] {
+                write_number(number, random, text);
+            }
+            write_bytes(&device.name, random, text);
+        }
     }
 }
 

@@ -1,5 +1,6 @@
 //! One line as a call.
 
+use super::device::DeviceLine;
 use super::Ask;
 
 /// A drain's run has 0 to 256 words.
@@ -9,7 +10,8 @@ pub const MAX_OUTPUT: u64 = 4_096;
 /// The lent journal has 0 to 200 words.
 pub const MAX_JOURNAL: u64 = 200;
 
-/// A call, or one of the lines that ask for the state or set a size.
+/// A call, or one of the lines that ask for the state, set a size or add a
+/// device.
 #[derive(Clone, Debug, PartialEq, Eq)]
 pub enum Call {
     Setup(Vec<u64>),
@@ -23,6 +25,7 @@ pub enum Call {
     State,
     Output(usize),
     Journal(usize),
+    Device(DeviceLine),
 }
 
 impl Ask for Call {
@@ -33,6 +36,9 @@ impl Ask for Call {
         let name = fields.next()?;
         if name == b"setup" {
             return fields.map(number).collect::<Option<_>>().map(Call::Setup);
+        }
+        if name == b"device" {
+            return DeviceLine::from_fields(fields).map(Call::Device);
         }
         // No other call has more than two fields.
         let (first, second, third) = (fields.next(), fields.next(), fields.next());
@@ -62,6 +68,15 @@ impl Ask for Call {
 }
 
 impl Call {
+    /// Whether it is one of 01's calls; the other lines only ask for the state
+    /// or prepare a call.
+    pub fn is_counted(&self) -> bool {
+        !matches!(
+            self,
+            Call::State | Call::Output(_) | Call::Journal(_) | Call::Device(_)
+        )
+    }
+
     /// The name that begins the call's line.
     pub fn name(&self) -> &'static str {
         match self {
@@ -76,6 +91,7 @@ impl Call {
             Call::State => "state",
             Call::Output(_) => "output",
             Call::Journal(_) => "journal",
+            Call::Device(_) => "device",
         }
     }
 }
@@ -105,7 +121,7 @@ fn up_to(field: &[u8], most: u64) -> Option<usize> {
 }
 
 /// Bytes: an even, non-zero count of hexadecimal digits, or no field.
-fn bytes(field: Option<&[u8]>) -> Option<Vec<u8>> {
+pub(super) fn bytes(field: Option<&[u8]>) -> Option<Vec<u8>> {
     let Some(digits) = field else {
         return Some(Vec::new());
     };

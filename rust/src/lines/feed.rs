@@ -15,6 +15,11 @@ pub trait Ask: Sized {
 pub trait Program: Default {
     type Call: Ask;
 
+    /// Whether what a line asks for can be had now; else it is a bad line.
+    fn takes(&self, _call: &Self::Call) -> bool {
+        true
+    }
+
     /// Does what a line asks for and writes its answer.
     fn answer(&mut self, call: &Self::Call, answer: &mut Vec<u8>);
 }
@@ -93,10 +98,10 @@ impl<P: Program> FeedOf<P> {
         self.number += 1;
         match LineOf::read(line) {
             LineOf::PassedOver => {}
-            LineOf::Bad => {
+            LineOf::Call(call) if self.program.takes(&call) => self.program.answer(&call, answer),
+            LineOf::Bad | LineOf::Call(_) => {
                 answer.extend_from_slice(format!("bad line {}\n", self.number).as_bytes());
             }
-            LineOf::Call(call) => self.program.answer(&call, answer),
         }
     }
 }

@@ -1,10 +1,12 @@
 //! The host: lists of calls as lines of text, and the answers to them.
 
 mod call;
+mod device;
 mod feed;
 mod host;
 
 pub use call::{number, Call};
+pub use device::{DeviceLine, MAX_DEVICE_LINES, MAX_NAME_BYTES};
 pub use feed::{answer_of, serve, Ask, FeedOf, LineOf, Program, MAX_LINE};
 pub use host::{write_blocks, write_channels, write_digits, Host};
 

@@ -3,9 +3,10 @@
 use super::damage::Damage;
 use super::File;
 use crate::block::Blocks;
-use crate::entry::{COUNT, KIND};
+use crate::entry::{COUNT, KIND, SERVICE};
 use crate::reader::fields::{named, KINDS};
 use crate::reader::{output, Verdict, ENTRY, WORD};
+use crate::state::SERVICES;
 use crate::wire::get64;
 use std::collections::BTreeMap;
 use std::fmt::{self, Display, Formatter};
@@ -81,6 +82,8 @@ impl Default for Counts {
         let grown = GROWN.iter().map(|name| format!("good {name}"));
         let names = bad.map(|name| format!("bad {name}"));
         let names = names.chain(kinds).chain(shown).chain(grown);
+        let answered = (0..SERVICES).map(|service| format!("good kind 10 of service {service}"));
+        let names = names.chain(answered);
         let names = names.chain(["good file".into(), "good file of no entries".into()]);
         Counts {
             listed: names.map(|name| (name, 0)).collect(),
@@ -113,6 +116,9 @@ impl Counts {
         for entry in entries {
             let (first, second) = (get64(entry, 0), get64(entry, WORD));
             self.add(format!("good kind {:2}", KIND.of(first)));
+            if KIND.of(first) == 10 {
+                self.add(format!("good kind 10 of service {}", SERVICE.of(first)));
+            }
             if let Some(name) = removal.entry(first, second, &reading.blocks) {
                 self.add(format!("good {name}"));
             }

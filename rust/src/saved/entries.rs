@@ -11,12 +11,12 @@ use crate::state::{Service, CHANNELS, SERVICES};
 pub fn entry(random: &mut Random, reading: &Reading, kind: usize) -> [u64; 2] {
     let number = NUMBER.word(reading.entries + 1);
     let mut words = [number | KIND.word(kind as u64), 0];
-    let channel = channel(random, reading, kind);
+    let (channel, service) = place(random, reading, kind);
     let block = block(random, reading);
     for field in named(kind).unwrap_or_default() {
         let value = match field {
             Field::Channel => channel,
-            Field::Service => random.below(SERVICES as u64),
+            Field::Service => service,
             Field::Record => record(random, reading),
             Field::Code => random.pick(&[0, 0, 0, 1, 2, 3, 4, 5, 7]),
             Field::Count => count(random, reading, block),
@@ -33,19 +33,27 @@ pub fn entry(random: &mut Random, reading: &Reading, kind: usize) -> [u64; 2] {
     words
 }
 
-/// A channel: mostly one where service 0 is registered for a memory request,
-/// else often a ready one.
-fn channel(random: &mut Random, reading: &Reading, kind: usize) -> u64 {
-    let memory = (10..=13).contains(&kind);
-    let fits = |channel: &u64| {
+/// A channel and service: for kinds 10 to 13 mostly registered ones, of which
+/// each service is as likely, and for 11 to 13 service 0; else often a ready
+/// channel.
+fn place(random: &mut Random, reading: &Reading, kind: usize) -> (u64, u64) {
+    let any = (random.below(CHANNELS as u64), random.below(SERVICES as u64));
+    let fits = |channel: &u64, service: u64| {
         let channel = &reading.channels[*channel as usize];
-        let registered = matches!(channel.services[0], Service::Registered { .. });
-        channel.ready && (registered || !memory)
+        let held = channel.services[service as usize];
+        let registered = matches!(held, Service::Registered { .. });
+        channel.ready && (registered || !(10..=13).contains(&kind))
     };
-    let any = random.below(CHANNELS as u64);
-    let fitting: Vec<u64> = (0..CHANNELS as u64).filter(fits).collect();
-    match random.pick_any(&fitting) {
-        Some(channel) if !random.once_in(3) => channel,
+    let channels = 0..CHANNELS as u64;
+    let anywhere = |service: &u64| channels.clone().any(|channel| fits(&channel, *service));
+    let services: Vec<u64> = match kind {
+        11..=13 => vec![0],
+        _ => (0..SERVICES as u64).filter(anywhere).collect(),
+    };
+    let service = random.pick_any(&services).unwrap_or(any.1);
+    let fitting = channels.clone().filter(|channel| fits(channel, service));
+    match random.pick_any(&fitting.collect::<Vec<u64>>()) {
+        Some(channel) if !random.once_in(3) => (channel, service),
         _ => any,
     }
 }

@@ -5,7 +5,7 @@ use crate::entry::{KIND, NUMBER};
 use crate::generate::generate;
 use crate::lines::{Call, Host, Line};
 use crate::reader::{read, Reading, Verdict};
-use crate::{setup, Blocks};
+use crate::Blocks;
 
 /// A block list and entries.
 #[derive(Clone, Debug, Default, PartialEq, Eq)]
@@ -77,10 +77,12 @@ pub fn lists(seed: u64, calls: u64) -> Vec<Saved> {
         };
         answer.clear();
         host.perform(&call, &mut answer);
-        if let Call::Setup(words) = &call {
-            let words = setup(words).map_or(Vec::new(), |_| words.clone());
-            let entries = Vec::new();
-            all.push(Saved { words, entries });
+        if let Call::Setup(words) = call {
+            let accepted = answer.starts_with(b"setup accepted");
+            all.push(Saved {
+                words: if accepted { words } else { Vec::new() },
+                entries: Vec::new(),
+            });
         }
         let answer = String::from_utf8_lossy(&answer);
         if let Some(saved) = all.last_mut() {

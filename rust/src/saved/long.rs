@@ -52,7 +52,7 @@ pub fn write_long(entries: u64, mut file: impl Write) -> io::Result<()> {
         file.write_all(&word.to_be_bytes())?;
     }
     let mut agent = Agent {
-        state: setup(&BLOCKS).expect("a good block list"),
+        state: setup(&BLOCKS, &[]).expect("a good block list"),
         journal: [0; JOURNAL_WORDS],
         out: [0; OUTPUT_BYTES],
         entries,

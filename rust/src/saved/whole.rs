@@ -9,7 +9,7 @@ use crate::reader::fields::{named, KINDS};
 const OTHERS: [usize; 8] = [18, 19, 20, 21, 22, 23, 24, 31];
 
 /// A good file made from what the agent drained: the same, with entries of
-/// other tickets, with other values where any is good, or its beginning and
+/// other tickets and of answers, with other values where any is good, or its beginning and
 /// entries that the agent would not write.
 pub fn whole(random: &mut Random, drained: &Saved) -> Saved {
     let mut saved = drained.clone();
@@ -22,12 +22,20 @@ pub fn whole(random: &mut Random, drained: &Saved) -> Saved {
     saved
 }
 
+/// Adds entries of the kinds that show nothing, where the file stays good:
+/// kind 10 needs its service.
 fn add_others(random: &mut Random, saved: &mut Saved) {
     for _ in 0..random.between(1, 6) {
-        let kind = random.pick(&OTHERS);
+        let kind = match random.once_in(2) {
+            true => 10,
+            false => random.pick(&OTHERS),
+        };
         let place = random.up_to(saved.entries.len() as u64) as usize;
-        let added = entry(random, &saved.before(place), kind);
-        saved.insert(place, added);
+        let mut before = saved.before(place);
+        let added = entry(random, &before, kind);
+        if before.entry(added).is_ok() {
+            saved.insert(place, added);
+        }
     }
 }
 

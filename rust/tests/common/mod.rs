@@ -65,7 +65,7 @@ pub type Reply = Result<Vec<u8>, u64>;
 impl Bench {
     pub fn new(list: &[u64]) -> Bench {
         Bench {
-            state: setup(list).unwrap(),
+            state: setup(list, &[]).unwrap(),
             journal: vec![0xdead; 128],
             out: vec![0xee; 672],
             number: 8,

@@ -47,7 +47,8 @@ set-number-requires c κs = search needs
 
 dispatch-requires : tie.Need-dispatch-requires
 dispatch-requires c κs =
-    (rw (c .before .before .set-number .ensures) (sound-numbers _ _ _ _ (c .before .before .before .before .before .before .before .before .before .before .before .before .before .pre .0)), omega (arith, c .before .before .before .before .before .before .before .before .before .before .before .before .before .pre .1), c .before .before .before .before .before .before .before .before .before .decode .ensures)
+    let p = c .before .before .before .before .before .before .before .before .before .before .before .before .before .pre in
+    (rw (c .before .before .set-number .ensures) (sound-numbers _ _ _ _ (p .2) (p .0)), omega (arith, p .1), c .before .before .before .before .before .before .before .before .before .decode .ensures)
 
 same-length-3 : tie.Need-same-length-3
 same-length-3 c = search needs

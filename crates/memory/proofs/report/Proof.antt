@@ -49,8 +49,8 @@ at-removal c = c .before .before .before .before .before
 put-status-record-requires : tie.Need-put-status-record-requires
 put-status-record-requires c κs = let m = at-removal c in let f = removal-fits _ _ (m .load-removal .ensures) (m .before .before .before .before .pre .0) (yes _ (m .before .before .is-outstanding .ensures) (m .before .if1 .left)) in (f .0, f .1, simp (length-take, length-drop) (omega arith))
 
-add-t16 : tie.Need-add-t16
-add-t16 c = search needs
+add-t17 : tie.Need-add-t17
+add-t17 c = search needs
 
 answered-requires-2 : tie.Need-answered-requires-2
 answered-requires-2 c κs = search needs
@@ -77,7 +77,7 @@ report-spec =
     part-put-status-record-start
     part-put-status-record-end
     put-status-record-requires
-    add-t16
+    add-t17
     answered-requires-2
     same-length-2
     returns-2)

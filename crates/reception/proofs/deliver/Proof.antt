@@ -1,3 +1,5 @@
+-- `reception::deliver` meets its contract: each way by its own function.
+-- Assumes nothing.
 use mathlib.Core.Path.{refl, sym, _∙_}
 use Rattle.wire.specs.BigEndian.{written}
 use Rattle.model.specs.Calls.{routed, dataFor}
@@ -17,6 +19,12 @@ answer-requires c κs = search needs
 enum-told-2 : tie.Need-enum-told-2
 enum-told-2 c = search needs
 
+answer-requires-2 : tie.Need-answer-requires-2
+answer-requires-2 c κs = search needs
+
+enum-told-3 : tie.Need-enum-told-3
+enum-told-3 c = search needs
+
 delivered-requires : tie.Need-delivered-requires
 delivered-requires c κs = search needs
 
@@ -27,9 +35,16 @@ returns : tie.Need-returns
 unfolding dataFor routed
 returns c = let t = c .before .before .before .before .before in rw (sym (t .before .before .route .ensures) ∙ t .enum-told .given .1) (c .before .before .answer .ensures)
 
+same-length-2 : tie.Need-same-length-2
+same-length-2 c = search needs
+
 returns-2 : tie.Need-returns-2
+unfolding dataFor routed
+returns-2 c = let t = c .before .before .before .before .before in rw (sym (t .before .before .route .ensures) ∙ t .enum-told2 .given .1) (c .before .before .answer2 .ensures)
+
+returns-3 : tie.Need-returns-3
 unfolding dataFor routed written
-returns-2 c = let t = c .before in rw (sym (t .before .before .route .ensures) ∙ t .enum-told2 .given .1) (record { length′ = refl; notes = c .delivered .ensures; state = refl; output = refl })
+returns-3 c = let t = c .before in rw (sym (t .before .before .route .ensures) ∙ t .enum-told3 .given .1) (record { length′ = refl; notes = c .delivered .ensures; state = refl; output = refl })
 
 pub deliver-spec : {M : Type 1} → statement M
 deliver-spec =
@@ -39,7 +54,11 @@ deliver-spec =
     enum-told
     answer-requires
     enum-told-2
+    answer-requires-2
+    enum-told-3
     delivered-requires
     same-length
     returns
-    returns-2)
+    same-length-2
+    returns-2
+    returns-3)

@@ -1,3 +1,5 @@
+-- `reception::is_host` meets its contract: the cases of the definition.
+-- Assumes nothing.
 use Rattle.model.specs.Calls.{isHost}
 use borrow.Author.Needs.{needs}
 use Rattle.reception.proofs.is_host.Statement.{statement}
@@ -9,6 +11,9 @@ enum-told c = search needs
 enum-told-2 : tie.Need-enum-told-2
 enum-told-2 c = search needs
 
+enum-told-3 : tie.Need-enum-told-3
+enum-told-3 c = search needs
+
 returns : tie.Need-returns
 unfolding isHost
 returns c = rw (c .enum-told .given .1)
@@ -17,5 +22,9 @@ returns-2 : tie.Need-returns-2
 unfolding isHost
 returns-2 c = rw (c .enum-told2 .given .1)
 
+returns-3 : tie.Need-returns-3
+unfolding isHost
+returns-3 c = rw (c .enum-told3 .given .1)
+
 pub is-host-spec : {M : Type 1} → statement M
-is-host-spec = tie.close (tie.spec enum-told enum-told-2 returns returns-2)
+is-host-spec = tie.close (tie.spec enum-told enum-told-2 enum-told-3 returns returns-2 returns-3)

@@ -1,0 +1,6 @@
+-- Laws that several proofs cite.
+-- Assumes nothing.
+pub mod Bytes
+pub mod Zeros
+pub mod Rising
+pub mod Names

@@ -1,0 +1,24 @@
+-- `device_list::accepted_devices` meets its contract: each early answer breaks a rule, and past them the devices decide.
+-- Assumes nothing.
+use mathlib.Core.Path.{sym, _∙_}
+use native.Mathlib.Omega.{arith}
+use Rattle.model.proofs.Loops.{refute}
+use Rattle.device_list.proofs.Names.{accepted-rules, accepted-last}
+use borrow.Author.Needs.{needs}
+use Rattle.device_list.proofs.accepted_devices.Statement.{statement}
+use Rattle.device_list.proofs.accepted_devices.Tie as tie
+
+returns : tie.Need-returns
+returns c = refute _ (λ t. let r = accepted-rules _ t in omega arith)
+
+returns-2 : tie.Need-returns-2
+returns-2 c = refute _ (λ t. let r = accepted-rules _ t in omega arith)
+
+keep-rules-requires : tie.Need-keep-rules-requires
+keep-rules-requires c κs = search needs
+
+returns-3 : tie.Need-returns-3
+returns-3 c = c .keep-rules .ensures ∙ sym (accepted-last _ (omega arith))
+
+pub accepted-devices-spec : {M : Type 1} → statement M
+accepted-devices-spec = tie.close (tie.spec returns returns-2 keep-rules-requires returns-3)

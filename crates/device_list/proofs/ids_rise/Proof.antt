@@ -1,0 +1,94 @@
+-- `device_list::ids_rise` meets its contract: each id passed is below the next.
+-- Assumes nothing.
+use mathlib.Core.Path.{_≡_, refl, sym, _∙_}
+use Prim.Native.Nat.{_+_, _*_, _≤_, _-_}
+use native.Mathlib.Omega.{arith}
+use lib.ListN.{getD}
+use lib.Dec.{ltb}
+use Rattle.model.specs.Choice.{every}
+use Rattle.model.specs.Layout.{deviceWords}
+use Rattle.device_list.specs.NameWords.{idsRise}
+use Rattle.device_list.proofs.Bytes.{both-pass}
+use Rattle.device_list.proofs.Rising.{every-next}
+use Rattle.device_list.proofs.ids_rise.Statement.{statement}
+use Rattle.device_list.proofs.ids_rise.Tie as tie
+
+abbrev Inv-loop : tie.InvT-loop
+Inv-loop words at n rise₀ j₀ rise j = (j ≤ n - 1) × (rise ≡ every j (λ k. ltb (getD words (at + k * deviceWords) 0) (getD words (at + (k + 1) * deviceWords) 0)))
+
+abbrev μ-loop : tie.MeasureT-loop
+μ-loop words at n rise₀ j₀ rise j = n - j
+
+loop-holds : tie.Need-loop-holds Inv-loop μ-loop
+unfolding every
+loop-holds c = (omega arith, refl)
+
+add-loop : tie.Need-add-loop Inv-loop μ-loop
+add-loop c = omega arith
+
+mul-rise : tie.Need-mul-rise Inv-loop μ-loop
+mul-rise c = omega arith
+
+add-rise : tie.Need-add-rise Inv-loop μ-loop
+add-rise c = omega arith
+
+mul-rise-2 : tie.Need-mul-rise-2 Inv-loop μ-loop
+mul-rise-2 c = omega arith
+
+shared-slice-read-rise : tie.Need-shared-slice-read-rise Inv-loop μ-loop
+shared-slice-read-rise c = omega arith
+
+add-rise-2 : tie.Need-add-rise-2 Inv-loop μ-loop
+add-rise-2 c = omega arith
+
+mul-rise-3 : tie.Need-mul-rise-3 Inv-loop μ-loop
+mul-rise-3 c = omega arith
+
+add-rise-3 : tie.Need-add-rise-3 Inv-loop μ-loop
+add-rise-3 c = omega arith
+
+mul-rise-4 : tie.Need-mul-rise-4 Inv-loop μ-loop
+mul-rise-4 c = omega arith
+
+shared-slice-read-rise-2 : tie.Need-shared-slice-read-rise-2 Inv-loop μ-loop
+shared-slice-read-rise-2 c = omega arith
+
+add-j : tie.Need-add-j Inv-loop μ-loop
+add-j c = omega arith
+
+loop-less : tie.Need-loop-less Inv-loop μ-loop
+loop-less c = omega arith
+
+loop-again : tie.Need-loop-again Inv-loop μ-loop
+loop-again c =
+    let l = c .before .before .before .loop in
+    let a = c .before .before .before .before .args in
+    (omega arith, both-pass (l .rise) (ltb (getD (a .words .now) (a .at + l .j * deviceWords) 0) (getD (a .words .now) (a .at + (l .j + 1) * deviceWords) 0)) ∙ rw (l .inv .1) (sym (every-next _ _)))
+
+returns : tie.Need-returns Inv-loop μ-loop
+unfolding idsRise
+returns c =
+    let past : c .before .loop .j ≡ c .before .before .args .n - 1 = omega (arith, c .before .loop .inv .0, c .loop-test .left) in
+    c .before .loop .inv .1 ∙ rw past
+
+pub ids-rise-spec : {M : Type 1} → statement M
+ids-rise-spec =
+    tie.close
+    (tie.spec
+    Inv-loop
+    μ-loop
+    loop-holds
+    add-loop
+    mul-rise
+    add-rise
+    mul-rise-2
+    shared-slice-read-rise
+    add-rise-2
+    mul-rise-3
+    add-rise-3
+    mul-rise-4
+    shared-slice-read-rise-2
+    add-j
+    loop-less
+    loop-again
+    returns)
