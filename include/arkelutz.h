@@ -7,7 +7,7 @@
  * that one call is lent overlap where one of them is written.
  *
  * refusal is 0 where the call was accepted, else the number of document 01 (1 to 8); then nothing was written anywhere, but by
- * arkelutz_setup the state of empty lists, and by arkelutz_work 0 to pages.
+ * arkelutz_setup the state of empty lists, by arkelutz_work 0 to pages and by arkelutz_take 0 to delay.
  * Nothing is allocated or kept between calls: the state and the journal are the caller's.
  */
 #ifndef ARKELUTZ_H
@@ -20,7 +20,7 @@
 extern "C" {
 #endif
 
-#define ARKELUTZ_STATE_WORDS 1352
+#define ARKELUTZ_STATE_WORDS 1356
 #define ARKELUTZ_JOURNAL_WORDS 128 /* every call but setup and show asks for a journal of just this length */
 #define ARKELUTZ_OUTPUT_BYTES 672  /* and, but for drain, for an output of this length or more */
 
@@ -61,6 +61,16 @@ struct arkelutz_drained {
     size_t entries; /* at the start of the run, two words each */
 };
 
+/* An order for the host: 0 none, 1 shutdown, 2 panic. */
+#define ARKELUTZ_ORDER_NONE 0
+#define ARKELUTZ_ORDER_SHUTDOWN 1
+#define ARKELUTZ_ORDER_PANIC 2
+
+struct arkelutz_order {
+    uint64_t refusal;
+    uint64_t order;
+};
+
 /* Takes a block list, five words a block, and a device list, ARKELUTZ_DEVICE_WORDS words a device, writes the first state, and returns the refusal, 0 or 7. */
 uint64_t arkelutz_setup(uint64_t *state, const uint64_t *blocks, size_t block_words, const uint64_t *devices,
                         size_t device_words);
@@ -82,6 +92,14 @@ struct arkelutz_answer arkelutz_close(uint64_t *state, size_t channel, uint64_t 
 /* Does one step of the outstanding removal, with a budget of 1 to 65,535 pages, and writes the pages that it moved. */
 struct arkelutz_answer arkelutz_work(uint64_t *state, uint64_t budget, uint64_t *journal, size_t journal_words,
                                      uint8_t *out, size_t out_bytes, uint64_t *pages);
+
+/* Sets whether requests to service 2 (shutdown) or 3 (panic) are permitted: any number but 0. They are denied until set. */
+struct arkelutz_answer arkelutz_permit(uint64_t *state, size_t service, uint64_t permitted, uint64_t *journal,
+                                       size_t journal_words, uint8_t *out, size_t out_bytes);
+
+/* Takes the order that a permitted request left, and writes a shutdown's delay in milliseconds, else 0. */
+struct arkelutz_order arkelutz_take(uint64_t *state, uint64_t *journal, size_t journal_words, uint8_t *out,
+                                    size_t out_bytes, uint64_t *delay);
 
 /* Copies the oldest entries to the start of a run, as many whole ones as are held and fit, and forgets them. */
 struct arkelutz_drained arkelutz_drain(uint64_t *state, const uint64_t *journal, size_t journal_words, uint64_t *run,

@@ -4,7 +4,8 @@
  * A state is set up from random lists of blocks and devices and brought on by messages; before a call some of its words may be replaced by
  * random ones. Each call writes a line with what it returned and a hash, which goes on from call to call, of every word of the state and the
  * journal, every byte of the output and every word of the run after it; each WORDS_EVERY calls the state's words follow. At the end stand the
- * answers of each call by refusal number. It fails if a call was never accepted, or no state was unsound.
+ * answers of each call by refusal number. It fails if a call was never accepted, an order of either kind never taken, or no state was unsound,
+ * and if show had a part that is not empty.
  */
 #include "arkelutz.h"
 
@@ -22,6 +23,9 @@
 #define NAME 4 /* the first of a device's words that hold its name */
 #define NAME_WORDS 32
 #define DEVICE_COUNT 199 /* the state's word before those of devices */
+#define PERMISSION (ARKELUTZ_STATE_WORDS - 4) /* the first of two permissions, the order and its delay */
+#define SHUTDOWN 2 /* the service domain-shutdown; domain-panic is the next one */
+#define ORDERS 3   /* none, shutdown, panic */
 #define RECORDS 16
 #define PAGE 8192
 #define SPARE 28 /* bytes of output past those that a call asks for */
@@ -31,8 +35,8 @@
 #define REFUSALS 9
 #define UNSOUND 8
 
-enum call { SETUP, RECEIVE, OFFER, WITHDRAW, CLOSE, WORK, DRAIN, SHOW, CALLS };
-static const char *const names[CALLS] = {"setup", "receive", "offer", "withdraw", "close", "work", "drain", "show"};
+enum call { SETUP, RECEIVE, OFFER, WITHDRAW, CLOSE, WORK, DRAIN, SHOW, PERMIT, TAKE, CALLS };
+static const char *const names[CALLS] = {"setup", "receive", "offer", "withdraw", "close", "work", "drain", "show", "permit", "take"};
 
 static uint64_t state[ARKELUTZ_STATE_WORDS], journal[ARKELUTZ_JOURNAL_WORDS], run[ARKELUTZ_JOURNAL_WORDS];
 static uint8_t out[ARKELUTZ_OUTPUT_BYTES + SPARE], message[MESSAGE_BYTES];
@@ -42,7 +46,7 @@ static size_t list_words;
 static uint64_t devices[(DEVICES + 1) * DEVICE_WORDS + 1];
 static size_t device_words;
 static uint64_t handles[CHANNELS][SERVICES], request;
-static uint64_t counts[CALLS][REFUSALS], parts, done, seed, hash = 14695981039346656037u;
+static uint64_t counts[CALLS][REFUSALS], taken[ORDERS], parts, done, seed, hash = 14695981039346656037u;
 
 static uint64_t any(void) /* splitmix64 */
 {
@@ -155,6 +159,17 @@ static void put_device(uint64_t channel)
         put(device[NAME + i / 8 % NAME_WORDS] >> (56 - 8 * (i % 8)), 1);
 }
 
+/* A request of domain-shutdown or domain-panic, of the right length or of another. */
+static void put_order(uint64_t channel)
+{
+    uint64_t service = SHUTDOWN + below(2), right = service == SHUTDOWN ? 12 : 8, bytes = below(4) ? right : below(16);
+
+    header(9, (uint32_t)(8 + bytes));
+    put(handle_of(channel, service), 8);
+    for (uint64_t i = 0; i < bytes; i++)
+        put(below(4) ? below(256) : 255 * below(2), 1);
+}
+
 /* Data for any service but dr-mem. */
 static void put_data(uint64_t channel)
 {
@@ -169,7 +184,7 @@ static void make_message(uint64_t channel)
     uint32_t type;
     uint8_t bit;
 
-    switch (below(22)) {
+    switch (below(26)) {
     case 0:
         header(0, 4);
         put(below(6) ? 1 : below(4), 2);
@@ -208,6 +223,12 @@ static void make_message(uint64_t channel)
         header(type, (uint32_t)(below(4) ? 16 : sized()));
         put(any(), 8);
         put(any(), 8);
+        break;
+    case 12:
+    case 13:
+    case 14:
+    case 15:
+        put_order(channel);
         break;
     default:
         put_request(channel);
@@ -324,6 +345,25 @@ static void begin(void)
     }
 }
 
+static void permit(uint64_t service)
+{
+    size_t words = journal_words(), bytes = out_bytes();
+    uint64_t permitted = below(3) ? 1 : below(2) ? 0 : sized();
+    struct arkelutz_answer a = arkelutz_permit(state, service, permitted, journal, words, out, bytes);
+    told(PERMIT, a.refusal, a.length, 0);
+}
+
+/* Writes the order in the place of a length, its delay in that of pages. */
+static void take(void)
+{
+    size_t words = journal_words(), bytes = out_bytes();
+    uint64_t delay = any();
+    struct arkelutz_order o = arkelutz_take(state, journal, words, out, bytes, &delay);
+    told(TAKE, o.refusal, o.order, delay);
+    if (o.refusal == 0 && o.order < ORDERS)
+        taken[o.order]++;
+}
+
 static void one_call(void)
 {
     uint64_t channel = below(40) ? below(CHANNELS) : sized(), service = below(40) ? below(SERVICES) : sized(), pages = any();
@@ -331,7 +371,7 @@ static void one_call(void)
     struct arkelutz_answer a;
     struct arkelutz_drained d;
 
-    switch (below(16)) {
+    switch (below(19)) {
     case 0:
         offer(channel, service);
         break;
@@ -365,14 +405,28 @@ static void one_call(void)
         parts += bytes > 0;
         told(SHOW, 0, bytes, 0);
         break;
+    case 8:
+    case 9:
+        permit(below(6) ? SHUTDOWN + below(2) : service);
+        break;
+    case 10:
+        take();
+        break;
     default:
         make_message(channel);
         receive(channel);
     }
 }
 
-/* A call, now and then on a state of which one or two words were replaced, half of them before those of devices. If that state is unsound,
- * the words come back. */
+/* The place of a word to replace: half of them before those of devices, a few of permissions and the order. */
+static size_t place(void)
+{
+    if (below(2))
+        return below(DEVICE_COUNT + 1);
+    return below(5) ? below(ARKELUTZ_STATE_WORDS) : PERMISSION + below(4);
+}
+
+/* A call, now and then on a state of which one or two words were replaced. If that state is unsound, the words come back. */
 static void made_call(void)
 {
     uint64_t kept[ARKELUTZ_STATE_WORDS], unsound = 0, after = 0;
@@ -381,7 +435,7 @@ static void made_call(void)
     memcpy(kept, state, sizeof state);
     for (uint64_t i = change ? 1 + below(2) : 0; i > 0; i--) {
         uint64_t word = below(3) ? sized() : below(2) ? below(5) : UINT32_MAX - below(2);
-        state[below(below(2) ? DEVICE_COUNT + 1 : ARKELUTZ_STATE_WORDS)] = word;
+        state[place()] = word;
     }
     for (size_t i = 0; i < CALLS; i++)
         unsound += counts[i][UNSOUND];
@@ -416,6 +470,7 @@ int main(int argc, char **argv)
         whole &= counts[call][0] > 0;
         unsound += counts[call][UNSOUND];
     }
+    printf("orders taken: shutdown %" PRIu64 ", panic %" PRIu64 "\n", taken[1], taken[2]);
     printf("parts of show that are not empty: %" PRIu64 "\n", parts);
-    return !(whole && unsound > 0 && parts > 0);
+    return !(whole && unsound > 0 && taken[1] > 0 && taken[2] > 0 && parts == 0);
 }

@@ -45,6 +45,22 @@ impl Agent for Independent {
     }
 
     #[inline(never)]
+    fn permit(
+        state: &mut Self::State,
+        service: u64,
+        journal: &mut [u64],
+        out: &mut [u8],
+    ) -> Result<usize, u64> {
+        independent::permit(state, service, true, journal, out)
+    }
+
+    #[inline(never)]
+    fn take(state: &mut Self::State, journal: &mut [u64], out: &mut [u8]) -> Result<u64, u64> {
+        let order = independent::take(state, journal, out)?;
+        Ok(order.delay())
+    }
+
+    #[inline(never)]
     fn drain(state: &mut Self::State, journal: &[u64], run: &mut [u64]) -> Result<usize, u64> {
         independent::drain(state, journal, run)
     }

@@ -6,6 +6,7 @@
 
 mod devices;
 mod independent_agent;
+mod orders;
 mod proved_agent;
 
 use devices::Devices;
@@ -45,6 +46,15 @@ pub trait Agent {
         journal: &mut [u64],
         out: &mut [u8],
     ) -> Result<(u64, usize), u64>;
+    /// Permits a service.
+    fn permit(
+        state: &mut Self::State,
+        service: u64,
+        journal: &mut [u64],
+        out: &mut [u8],
+    ) -> Result<usize, u64>;
+    /// Takes the order; gives its delay.
+    fn take(state: &mut Self::State, journal: &mut [u64], out: &mut [u8]) -> Result<u64, u64>;
     fn drain(state: &mut Self::State, journal: &[u64], run: &mut [u64]) -> Result<usize, u64>;
 }
 
@@ -139,6 +149,17 @@ impl<A: Agent> Host<A> {
         black_box(worked).expect("the step is accepted");
     }
 
+    fn permit(&mut self) {
+        let service = orders::SERVICE;
+        let length = A::permit(&mut self.state, service, &mut self.journal, &mut self.out);
+        black_box(length).expect("the service is permitted");
+    }
+
+    fn take(&mut self) {
+        let delay = A::take(&mut self.state, &mut self.journal, &mut self.out);
+        black_box(delay).expect("an order is taken");
+    }
+
     fn drain(&mut self, words: usize) {
         let drained = A::drain(&mut self.state, &self.journal, &mut self.run[..words]);
         black_box(drained).expect("the drain is accepted");
@@ -178,6 +199,10 @@ enum Calls {
     /// Requests of the last device: STATUS, UNCONFIGURE, STATUS, CONFIGURE, and
     /// again.
     Device,
+    /// Shutdown requests that are denied.
+    Denied,
+    /// Permit, a shutdown request that succeeds, and take, in turn.
+    Orders,
     Work,
     DrainOne,
     DrainFull,
@@ -205,9 +230,13 @@ impl Case {
             let drained = A::drain(copy, &host.journal, &mut host.run);
             black_box(drained).expect("the drain is accepted");
         }
-        for message in messages {
+        for (number, message) in messages.iter().enumerate() {
             match self.calls {
-                Calls::Query(_) | Calls::Device => host.receive(0, message),
+                Calls::Orders if number % 3 == 0 => host.permit(),
+                Calls::Orders if number % 3 == 2 => host.take(),
+                Calls::Query(_) | Calls::Device | Calls::Denied | Calls::Orders => {
+                    host.receive(0, message);
+                }
                 Calls::Work => host.work(),
                 Calls::DrainOne => host.drain(2),
                 Calls::DrainFull => {}
@@ -230,10 +259,12 @@ impl Case {
         least.min(nanoseconds)
     }
 
-    /// The message of a call; handle 2 is that of `dr-mem`, 4 that of `dr-vio`.
+    /// The message of a call; handle 2 is that of `dr-mem`, 4 that of `dr-vio`, 6
+    /// that of `domain-shutdown`.
     fn message(&self, number: u64) -> Vec<u8> {
         match self.calls {
             Calls::Device => ds_message(9, &self.devices.request(4, number)),
+            Calls::Denied | Calls::Orders => ds_message(9, &orders::request(6, number)),
             Calls::Query(records) => request(QUERY, number, records, self.blocks, 2),
             _ => Vec::new(),
         }
@@ -283,6 +314,12 @@ fn cases() -> Vec<Case> {
     }
     cases.extend(device_cases());
     let others = [
+        ("shutdown request, denied", Prepare::Nothing, Calls::Denied),
+        (
+            "permit, request, take in turn",
+            Prepare::Nothing,
+            Calls::Orders,
+        ),
         ("work step, 1 page collected", Prepare::Removal, Calls::Work),
         ("drain of 1 entry", Prepare::Full, Calls::DrainOne),
         ("drain of 64 entries", Prepare::Full, Calls::DrainFull),

@@ -1,7 +1,7 @@
 //! The proved agent, by its static library. Nothing checks these declarations
 //! against crates/exports but the comparisons of results in this package.
 
-pub const STATE_WORDS: usize = 1_352;
+pub const STATE_WORDS: usize = 1_356;
 
 /// The agent's state.
 pub type Words = [u64; STATE_WORDS];
@@ -23,6 +23,20 @@ pub struct Worked {
 pub struct Drained {
     pub refusal: u64,
     pub entries: usize,
+}
+
+/// The number of the order: 1 shutdown, 2 panic, 0 on a refusal.
+#[repr(C)]
+pub struct Order {
+    pub refusal: u64,
+    pub order: u64,
+}
+
+/// Take's answer.
+pub struct Taken {
+    pub refusal: u64,
+    pub order: u64,
+    pub delay: u64,
 }
 
 extern "C" {
@@ -85,6 +99,23 @@ extern "C" {
         run: *mut u64,
         run_words: usize,
     ) -> Drained;
+    fn arkelutz_permit(
+        state: *mut Words,
+        service: usize,
+        permitted: u64,
+        journal: *mut u64,
+        journal_words: usize,
+        out: *mut u8,
+        out_bytes: usize,
+    ) -> Answer;
+    fn arkelutz_take(
+        state: *mut Words,
+        journal: *mut u64,
+        journal_words: usize,
+        out: *mut u8,
+        out_bytes: usize,
+        delay: *mut u64,
+    ) -> Order;
     fn arkelutz_show(
         state: *const Words,
         channel: usize,
@@ -217,6 +248,49 @@ pub fn drain(state: &mut Words, journal: &[u64], run: &mut [u64]) -> Drained {
             run.as_mut_ptr(),
             run.len(),
         )
+    }
+}
+
+/// Any number but 0 permits.
+#[inline]
+pub fn permit(
+    state: &mut Words,
+    service: u64,
+    permitted: u64,
+    journal: &mut [u64],
+    out: &mut [u8],
+) -> Answer {
+    unsafe {
+        arkelutz_permit(
+            state,
+            service as usize,
+            permitted,
+            journal.as_mut_ptr(),
+            journal.len(),
+            out.as_mut_ptr(),
+            out.len(),
+        )
+    }
+}
+
+#[inline]
+pub fn take(state: &mut Words, journal: &mut [u64], out: &mut [u8]) -> Taken {
+    // the call writes it always; no order has this delay
+    let mut delay = u64::MAX;
+    let Order { refusal, order } = unsafe {
+        arkelutz_take(
+            state,
+            journal.as_mut_ptr(),
+            journal.len(),
+            out.as_mut_ptr(),
+            out.len(),
+            &mut delay,
+        )
+    };
+    Taken {
+        refusal,
+        order,
+        delay,
     }
 }
 

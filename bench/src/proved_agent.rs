@@ -54,6 +54,21 @@ impl Agent for Proved {
         outcome(worked.refusal, (worked.pages, worked.length))
     }
 
+    fn permit(
+        state: &mut Self::State,
+        service: u64,
+        journal: &mut [u64],
+        out: &mut [u8],
+    ) -> Result<usize, u64> {
+        let answer = proved::permit(state, service, 1, journal, out);
+        outcome(answer.refusal, answer.length)
+    }
+
+    fn take(state: &mut Self::State, journal: &mut [u64], out: &mut [u8]) -> Result<u64, u64> {
+        let taken = proved::take(state, journal, out);
+        outcome(taken.refusal, taken.delay)
+    }
+
     fn drain(state: &mut Self::State, journal: &[u64], run: &mut [u64]) -> Result<usize, u64> {
         let drained = proved::drain(state, journal, run);
         outcome(drained.refusal, drained.entries)

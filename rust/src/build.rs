@@ -79,6 +79,16 @@ pub fn device(request: u64, id: u64, asked: u32, name: &[u8]) -> Vec<u8> {
     bytes
 }
 
+/// A shutdown request, not yet in DATA.
+pub fn shutdown(request: u64, delay: u32) -> Vec<u8> {
+    [request.to_be_bytes().as_slice(), &delay.to_be_bytes()].concat()
+}
+
+/// A panic request, not yet in DATA.
+pub fn panic(request: u64) -> Vec<u8> {
+    request.to_be_bytes().to_vec()
+}
+
 /// A request with the argument that its pairs need.
 pub fn request(memory_type: u32, request: u64, pairs: &[Pair]) -> Vec<u8> {
     memory(memory_type, pairs.len() as u32, request, pairs)

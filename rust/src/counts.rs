@@ -2,6 +2,7 @@
 
 mod devices;
 mod numbers;
+mod orders;
 mod replay;
 
 use crate::comparing::Tally;
@@ -23,7 +24,7 @@ const MUST_REACH: [(&str, &str); 30] = [
     ("call close", "accepted, refused"),
     ("call work", "accepted, refused"),
     ("call drain", "accepted, refused"),
-    ("call show", "part, empty"),
+    ("call show", "empty"),
     ("refusal 1", "receive, offer, withdraw, close, work, drain"),
     ("refusal 2", "receive, offer, withdraw, close, work"),
     ("refusal 3", "receive, offer, withdraw, close, work"),
@@ -32,7 +33,7 @@ const MUST_REACH: [(&str, &str); 30] = [
     ("refusal 7", "setup"),
     (
         "entry kind",
-        " 1,  2,  3,  4,  5,  6,  7,  8,  9, 10, 11, 12, 13, 14, 15, 16, 17",
+        " 1,  2,  3,  4,  5,  6,  7,  9, 10, 11, 12, 13, 14, 15, 16, 17",
     ),
     (
         "entry code",
@@ -81,7 +82,8 @@ const MUST_REACH: [(&str, &str); 30] = [
 /// The names of the counts that any long list of calls must reach.
 fn must_reach() -> Vec<String> {
     let mut names = vec!["line bad".to_string()];
-    for (group, members) in MUST_REACH.into_iter().chain(devices::MUST_REACH) {
+    let of_tickets = devices::MUST_REACH.into_iter().chain(orders::MUST_REACH);
+    for (group, members) in MUST_REACH.into_iter().chain(of_tickets) {
         names.extend(
             members
                 .split(", ")
@@ -182,9 +184,8 @@ impl Tally for Counts {
             }
             Line::Bad | Line::Call(_) => {
                 self.add("line bad".into());
-                if let Some(name) = devices::line::bad(line) {
-                    self.add(name);
-                }
+                let why = devices::line::bad(line).or_else(|| orders::line::bad(line));
+                why.into_iter().for_each(|name| self.add(name));
                 if line.starts_with(b"setup") && self.replay.has_devices() {
                     self.add("device lines kept by a bad setup line".into());
                 }
@@ -222,6 +223,9 @@ impl Counts {
             (_, [_, "refused", number]) => {
                 self.add(format!("call {name} refused"));
                 self.add(format!("refusal {number} {name}"));
+                if let (Call::Permit(service, _), "3") = (call, *number) {
+                    self.add(orders::refused_service(*service));
+                }
             }
             (_, [_, "accepted", rest @ ..]) => {
                 self.add(format!("call {name} accepted"));
@@ -245,7 +249,7 @@ impl Counts {
         self.add(format!("entry kind {kind:2}"));
         match (kind, SERVICE.of(first)) {
             (10, 1) => self.add(format!("entry code 10 of service 1 {code}")),
-            (10 | 15 | 16 | 18, _) => self.add(format!("entry code {kind}/{code}")),
+            (10 | 15 | 16 | 18 | 19 | 21, _) => self.add(format!("entry code {kind}/{code}")),
             _ => {}
         }
         if kind == 16 {
@@ -262,6 +266,11 @@ impl Counts {
     fn accepted(&mut self, call: &Call, rest: &[&str]) {
         let reply = match call {
             Call::Drain(_) => return,
+            Call::Take => {
+                return orders::taken(rest)
+                    .into_iter()
+                    .for_each(|name| self.add(name))
+            }
             Call::Work(_) => rest.get(1),
             _ => rest.first(),
         };
@@ -291,6 +300,9 @@ impl Counts {
         };
         let form = if good.is_some() { "good" } else { "bad" };
         self.add(format!("DS received {name} {form}"));
+        if let Some(name) = orders::reply(reply) {
+            return self.add(format!("order reply {name}"));
+        }
         // No reply to a memory message has the length of one to a device request.
         let of_device = reply.len() == wire::DATA_START + REPLY_BYTES;
         if let (Some(wire::Message::Data { data, .. }), false) = (good, of_device) {
@@ -299,7 +311,7 @@ impl Counts {
     }
 
     /// A memory message by what was replied. Without a reply it was begun, or
-    /// was for the host, or the channel was closed.
+    /// the channel was closed.
     fn memory(&mut self, data: &[u8], reply: &[u8]) {
         let asked = match data.len() {
             0..=15 => "under 16 bytes",

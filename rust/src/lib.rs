@@ -1,9 +1,9 @@
 //! An agent written from 01-scope.md and 02-change-requests.md alone: the
-//! guest's end of Domain Services, the services for memory and for virtual
-//! devices, and the journal. Beside it: the host's line format, a generator of
-//! random lists of calls, and the counts of what a list reached. `reader` is
-//! the reader of saved entries of ticket 3, `saved` makes files for it. `vio`
-//! is the version handshake of ticket 10, with the same.
+//! guest's end of Domain Services, the services for memory, virtual devices,
+//! shutdown and panic, and the journal. Beside it: the host's line format, a
+//! generator of random lists of calls, and the counts of what a list reached.
+//! `reader` is the reader of saved entries of ticket 3, `saved` makes files
+//! for it. `vio` is the version handshake of ticket 10, with the same.
 
 pub mod agent;
 pub mod block;
@@ -15,6 +15,7 @@ pub mod entry;
 pub mod generate;
 pub mod lines;
 pub mod memory;
+pub mod order;
 pub mod reader;
 pub mod removal;
 pub mod saved;
@@ -25,5 +26,6 @@ pub mod wire;
 pub use agent::{close, drain, offer, receive, setup, show, withdraw};
 pub use block::{Block, Blocks, Pair};
 pub use device::{Device, Devices};
+pub use order::{permit, take, Order, Orders};
 pub use removal::{work, Removal, Settled, Worked};
 pub use state::{refusal, Channel, Service, State};

@@ -207,30 +207,17 @@ fn with_shutdown() -> Bench {
 }
 
 #[test]
-fn show_gives_the_hosts_part() {
-    let mut bench = with_shutdown();
-    let message = build::data(5, b"stop");
-    assert_eq!(show(&bench.state, 1, &message), b"stop");
-    for channel in [0, 2, 4, 1 << 32 | 1, u64::MAX] {
+fn show_is_empty() {
+    let bench = with_shutdown();
+    for channel in [0, 1, 2, 4, 1 << 32 | 1, u64::MAX] {
+        for handle in [2, 5, 5 | 1 << 32] {
+            let message = build::data(handle, b"stop");
+            assert_eq!(show(&bench.state, channel, &message), b"");
+            assert_eq!(show(&bench.state, channel, &message[..19]), b"");
+        }
+        let message = build::ds(7, &5u64.to_be_bytes());
         assert_eq!(show(&bench.state, channel, &message), b"");
     }
-    assert_eq!(show(&bench.state, 2, &build::data(2, b"memory")), b"");
-    assert_eq!(show(&bench.state, 1, &message[..19]), b"");
-    assert_eq!(
-        show(&bench.state, 1, &build::data(5 | 1 << 32, b"stop")),
-        b""
-    );
-    assert_eq!(
-        show(&bench.state, 1, &build::ds(7, &5u64.to_be_bytes())),
-        b""
-    );
-    assert_eq!(bench.receive(1, &message), Ok(vec![]));
-    assert_eq!(
-        bench.journal[12..14],
-        [7 << 32 | 8 << 27 | 1 << 25 | 2 << 23, 0]
-    );
-    bench.state.held = 65;
-    assert_eq!(show(&bench.state, 1, &message), b"");
 }
 
 #[test]

@@ -239,13 +239,17 @@ fn show_is_empty_and_others_reach_their_service() {
     let request = build::device(1, 7, STATUS, b"disk\0");
     assert_eq!(show(&bench.state, 2, &build::data(4, &request)), b"");
     assert_eq!(show(&bench.state, 2, &build::data(4, b"any")), b"");
-    // The same data for service 2 goes to the host, with kind 8.
+    // The same data for service 2 is a request of wrong length: kind 21, code 2.
     bench.offer(2, 2).unwrap();
     let handle = bench.state.last;
     bench.receive(2, &build::reg_ack(handle, 0)).unwrap();
     let message = build::data(handle, &request);
-    assert_eq!(show(&bench.state, 2, &message), request);
-    assert_eq!(bench.receive(2, &message), Ok(vec![]));
+    assert_eq!(show(&bench.state, 2, &message), b"");
+    let reply = bench.receive(2, &message).unwrap();
+    assert_eq!(reply[16..], hex("0000000000000001 00000002"));
+    let at = (bench.state.last - 1) as usize * 2;
+    let first = 21 << 27 | 2 << 25 | 2 << 23 | 2 << 16;
+    assert_eq!(bench.journal[at] & 0xffff_ffff, first);
     // For service 0 it is a memory message: kind 10 with service 0.
     bench.ask(&request);
     assert_eq!(bench.last_entry(), (10, 0, 1, 0, 7));

@@ -35,6 +35,9 @@ service 0 registered 2 0
 channel 3 closed
 block 0 configured
 block 1 configured
+permission 2 denied
+permission 3 denied
+order none
 removal open record 0 pages 3
 entries 5
 work accepted 1
@@ -56,6 +59,9 @@ service 0 registered 2 0
 channel 3 closed
 block 0 unconfigured
 block 1 configured
+permission 2 denied
+permission 3 denied
+order none
 entries 7
 ";
 
@@ -70,7 +76,8 @@ fn before_and_after_setups() {
         let channels: String = (0..4)
             .map(|number| format!("channel {number} closed\n"))
             .collect();
-        format!("{channels}{blocks}entries {entries}\n")
+        let orders = "permission 2 denied\npermission 3 denied\norder none\n";
+        format!("{channels}{blocks}{orders}entries {entries}\n")
     };
     assert_eq!(host("state"), state("", 0));
     let input = "close 1\nsetup 0 1 0 0 0\nstate\nclose 9\nsetup 1\nstate\nsetup\ndrain 2\n";
@@ -101,7 +108,8 @@ fn show_lines() {
                  receive 1 000000090000000a0000000000000002abcd\n";
     let answer = host(input);
     let answers: Vec<&str> = answer.lines().skip(3).collect();
-    assert_eq!(answers, ["show abcd", "show", "show", "receive accepted"]);
+    let invalid = "receive accepted 00000009000000140000000000000002000000000000000000000002";
+    assert_eq!(answers, ["show", "show", "show", invalid]);
 }
 
 #[test]

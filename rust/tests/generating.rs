@@ -194,6 +194,47 @@ fn counts_of_devices() {
 }
 
 #[test]
+fn counts_of_orders() {
+    let mut list = "setup\n".to_string() + &receive(&build::init_req(1, 0));
+    list += "offer 0 2\n";
+    list += &receive(&build::reg_ack(2, 0));
+    let request = receive(&build::data(2, &build::shutdown(1, 0)));
+    list += &format!("permit 1 1\npermit 2 1\n{request}{request}permit 2 0\n{request}");
+    list += &receive(&build::data(2, &[0; 7]));
+    list += "withdraw 0 2\ntake\ntake\npermit 2 2\ntake 1\ndrain 256\n";
+    for name in [
+        "permit refused 1",
+        "permit 2 permitted",
+        "permit 2 denied",
+        "shutdown request success",
+        "shutdown request pending by shutdown",
+        "shutdown request denied while an order waits",
+        "shutdown request wrong length while an order waits",
+        "shutdown data of bytes 7",
+        "shutdown delay 0",
+        "order reply success",
+        "order reply failure denied",
+        "order reply failure pending",
+        "order reply invalid message",
+        "order kept by permit",
+        "order kept by withdraw",
+        "order taken shutdown",
+        "refusal 6 take",
+        "permit line bad neither 0 nor 1",
+        "take line bad further field",
+        "entry code 19/1",
+        "entry kind 20",
+        "entry code 21/2",
+    ] {
+        assert_eq!(reached(&list, name), [name]);
+    }
+    let others = ["panic ", "order kept by close", "show of service 2"];
+    for name in others {
+        assert_eq!(reached(&list, name), [""; 0]);
+    }
+}
+
+#[test]
 fn counts_of_made_states() {
     let mut counts = Counts::default();
     counts.made("close refused 5\nsetup refused 7\nwork accepted 1\n");

@@ -484,12 +484,13 @@ impl Follower {
         String::from_utf8(answer).unwrap()
     }
 
-    /// The file is good and shows the state, except for its devices and its
+    /// The file is good and shows the state, except for its devices, orders and
     /// removal.
     fn check(&mut self) {
         let state = self.call(&Call::State);
         let lines = state.split_inclusive('\n');
-        let shown = |line: &&str| !line.starts_with("removal") && !line.starts_with("device");
+        let hidden = ["device", "permission", "order", "removal"];
+        let shown = |line: &&str| !hidden.iter().any(|name| line.starts_with(name));
         let expected: String = lines.filter(shown).collect();
         assert_eq!(print(&file(&self.words, &self.entries)), expected);
     }

@@ -5,7 +5,7 @@
 use independent::generate::generate;
 use independent::lines::{Call, Host, Line};
 use independent::wire::{self, Message};
-use independent::{setup, Channel, Service, State};
+use independent::{setup, Channel, Order, Orders, Service, State};
 
 /// What reading gives: 01's rules, entry by entry.
 #[derive(Debug, PartialEq)]
@@ -13,6 +13,7 @@ struct Reading {
     channels: [Channel; 4],
     configured: Vec<bool>,
     devices: Vec<bool>,
+    orders: Orders,
     /// Cancelled, record and pages.
     removal: Option<(bool, u64, u64)>,
 }
@@ -26,6 +27,7 @@ impl Reading {
             channels: state.channels,
             configured: blocks.map(|block| block.configured).collect(),
             devices: devices.map(|device| device.configured).collect(),
+            orders: state.orders,
             removal: state.removal.map(|removal| {
                 (
                     removal.cancelled,
@@ -59,7 +61,19 @@ impl Reading {
             kind @ 13..=15 => self.removal_entry(kind, code, count, second),
             16 => self.removal = None,
             18 => self.devices[count as usize] = second == 1,
-            kind => assert!([8, 9, 10, 17].contains(&kind)),
+            kind @ 19..=21 => self.order_entry(kind, first >> 23 & 3, code, second),
+            kind => assert!([9, 10, 17].contains(&kind)),
+        }
+    }
+
+    /// Kind 21 leaves an order with the result success, 0.
+    fn order_entry(&mut self, kind: u64, service: u64, code: u64, second: u64) {
+        match (kind, service, code) {
+            (19, 2..=3, ..=1) => self.orders.permitted[service as usize - 2] = code == 1,
+            (20, 0, 0) => self.orders.waiting = None,
+            (21, 2, 0) => self.orders.waiting = Some(Order::Shutdown { delay: second }),
+            (21, 3, 0) => self.orders.waiting = Some(Order::Panic),
+            _ => assert!(kind == 21 && service >= 2 && (1..=2).contains(&code) && second == 0),
         }
     }
 
@@ -126,7 +140,7 @@ impl Follower {
         match shown[*channel as usize].registered(handle) {
             Some(0) => assert!((10..=13).contains(&kind) && service == 0),
             Some(1) => assert!([(18, 0), (10, 1)].contains(&(kind, service))),
-            Some(_) => assert_eq!(kind, 8),
+            Some(own) => assert_eq!((kind, service), (21, own as u64)),
             None => assert!(kind == 9 || kind == 2),
         }
     }

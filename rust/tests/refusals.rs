@@ -6,23 +6,27 @@ use independent::*;
 
 /// Every call that is lent an output, each of which a sound state accepts.
 type Attempt = fn(&mut Bench) -> Option<u64>;
-const ATTEMPTS: [Attempt; 5] = [
+const ATTEMPTS: [Attempt; 7] = [
     |bench| bench.receive(2, &build::init_req(1, 0)).err(),
     |bench| bench.offer(2, 3).err(),
     |bench| bench.withdraw(2, 0).err(),
     |bench| bench.close(1).err(),
     |bench| bench.work(1).err(),
+    |bench| bench.permit(2, true).err(),
+    |bench| bench.take().err(),
 ];
 
-/// `dr-mem` registered on channel 2, a removal of A with 3 pages collected.
+/// `dr-mem` registered on channel 2, a removal of A with 3 pages collected, and
+/// an order that waits.
 fn with_removal() -> Bench {
     let mut bench = Bench::with_memory();
     bench.unconfigure(&[A, C]);
     bench.work(3).unwrap();
+    bench.state.orders.waiting = Some(Order::Panic);
     bench
 }
 
-/// Whether each of the five calls is refused by `number`, or accepted if 0,
+/// Whether each of the seven calls is refused by `number`, or accepted if 0,
 /// and a refused one changes nothing.
 fn each_gives(bench: &Bench, number: u64) {
     for attempt in ATTEMPTS {
@@ -61,7 +65,7 @@ fn journals_that_are_not_128_words() {
 #[test]
 fn arguments_out_of_range() {
     let bench = with_removal();
-    let attempts: [Attempt; 9] = [
+    let attempts: [Attempt; 14] = [
         |bench| bench.receive(4, &[]).err(),
         |bench| bench.receive(1 << 32, &[]).err(),
         |bench| bench.offer(4, 0).err(),
@@ -71,6 +75,11 @@ fn arguments_out_of_range() {
         |bench| bench.close(4).err(),
         |bench| bench.work(0).err(),
         |bench| bench.work(65_536).err(),
+        |bench| bench.permit(0, true).err(),
+        |bench| bench.permit(1, true).err(),
+        |bench| bench.permit(4, false).err(),
+        |bench| bench.permit(1 << 32 | 2, true).err(),
+        |bench| bench.permit(u64::MAX, true).err(),
     ];
     for attempt in attempts {
         let mut tried = bench.clone();
@@ -122,10 +131,12 @@ fn calls_at_the_wrong_time() {
     assert_eq!(bench.withdraw(2, 1), Err(6)); // idle
     assert_eq!(bench.withdraw(0, 0), Err(6));
     assert_eq!(bench.work(1), Err(6)); // nothing outstanding
+    assert_eq!(bench.take(), Err(6)); // no order
     assert_eq!(bench, before);
     // 5 is tested before 6.
     bench.state.last = 4_294_967_295;
     assert_eq!(bench.work(1), Err(5));
+    assert_eq!(bench.take(), Err(5));
     assert_eq!(bench.offer(1, 0), Err(5));
     assert_eq!(bench.withdraw(2, 1), Err(5));
 }
@@ -196,7 +207,7 @@ fn removal(state: &mut State) -> &mut Removal {
     state.removal.as_mut().unwrap()
 }
 
-const SPOILS: [Spoil; 31] = [
+const SPOILS: [Spoil; 33] = [
     |state| state.blocks.count = 17,
     |state| state.blocks.count = usize::MAX,
     |state| state.blocks.list[3].base += 1,
@@ -238,6 +249,8 @@ const SPOILS: [Spoil; 31] = [
     |state| (removal(state).position, removal(state).collected) = (3, 0),
     |state| removal(state).collected = 4,
     |state| removal(state).position = 1, // C is not configured: 3 pages
+    |state| state.orders.waiting = Some(Order::Shutdown { delay: 1 << 32 }),
+    |state| state.orders.waiting = Some(Order::Shutdown { delay: u64::MAX }),
 ];
 
 #[test]
@@ -249,7 +262,6 @@ fn unsound_states() {
             handle: 3,
             minor: 0,
         };
-        assert_eq!(show(&bench.state, 2, &message), b"abc");
         spoil(&mut bench.state);
         assert!(!bench.state.is_sound(), "{number}");
         // 8 is tested before 1.
@@ -280,13 +292,20 @@ fn more_unsound_removals() {
 
 #[test]
 fn made_states_that_are_sound() {
-    let changes: [Spoil; 9] = [
+    let changes: [Spoil; 12] = [
         |state| removal(state).handle = 0,
         |state| removal(state).cancelled = true,
         |state| (removal(state).position, removal(state).collected) = (2, 0),
         |state| (removal(state).records[0], removal(state).collected) = (B, 1),
         |state| removal(state).records[1] = A,
         |state| state.held = 0,
+        |state| state.orders.waiting = Some(Order::Shutdown { delay: 0 }),
+        |state| {
+            state.orders.waiting = Some(Order::Shutdown {
+                delay: 4_294_967_295,
+            })
+        },
+        |state| state.orders.permitted = [true; 2],
         |state| state.highest = [Some(u64::MAX); 4],
         |state| state.highest = [None; 4],
         |state| {

@@ -9,10 +9,12 @@ use bench::states::call::{Call, Lent};
 use bench::states::change::change;
 use bench::states::counts::Counts;
 use bench::states::make;
-use bench::states::words::{devices_after, devices_in, fill_free, meant, spoil_mark, words_of};
+use bench::states::spoil::spoil;
+use bench::states::words::{devices_after, devices_in, fill_free, meant, words_of};
+use bench::states::words::{orders_after, orders_in};
 use independent::device::DEVICE_WORDS;
 use independent::generate::random::Random;
-use independent::{wire, State};
+use independent::State;
 use std::fmt::Debug;
 use std::panic::{catch_unwind, AssertUnwindSafe};
 use std::process::ExitCode;
@@ -21,9 +23,8 @@ use std::process::ExitCode;
 struct Case {
     state: State,
     words: Words,
-    /// Whether the words have a mark that is not 0 or 1, which the other form
-    /// does not have.
-    spoilt: bool,
+    /// What in the words has a value that the other form does not have.
+    spoilt: Option<&'static str>,
     call: Call,
     lent: Lent,
 }
@@ -38,7 +39,7 @@ struct Outcome<S> {
 impl Case {
     /// A sound state, in two thirds of the cases with one or two changes. In
     /// half of the cases the words that have no meaning in it are random. A few
-    /// have a device with a mark past 1.
+    /// have a spoilt word.
     fn random(random: &mut Random) -> Case {
         let mut state = make::sound(random);
         for _ in 0..random.pick(&[0, 0, 0, 1, 1, 1, 1, 2, 2]) {
@@ -49,13 +50,9 @@ impl Case {
             let shift = random.below(64);
             fill_free(&mut words, || random.next() >> shift);
         }
-        let device = random.below(32);
-        let value = random.pick(&[2, 3, 1 << 32, 1 << 32 | 1, u64::MAX]);
-        let spoilt =
-            random.once_in(40) && spoil_mark(&mut words, device, random.pick(&[1, 2]), value);
         Case {
+            spoilt: spoil(random, &mut words),
             words,
-            spoilt,
             call: Call::random(random, &state),
             lent: Lent::random(random, &state),
             state,
@@ -95,29 +92,33 @@ impl Case {
 
     /// Whether the call is given words that the independent agent cannot have.
     fn is_beyond(&self) -> bool {
-        self.spoilt && !self.is_setup()
+        self.spoilt.is_some() && !self.is_setup()
     }
 
     /// Whether the words after the call are those of the other state, and of
-    /// devices also those without a meaning: as they were given to the call.
+    /// devices and orders also those without a meaning: as they were given to the
+    /// call, but for a delay that a new order or take writes.
     fn states_agree(&self, ours: &Words, theirs: &State) -> bool {
         if self.is_beyond() {
             return *ours == self.words;
         }
-        let devices = match &self.call {
+        let exact = match &self.call {
             Call::Setup(_, devices) => {
                 let listed = &devices[..theirs.devices.count * DEVICE_WORDS];
                 devices_in(ours)[1..].starts_with(listed)
             }
-            _ => devices_in(ours) == devices_after(&self.words, theirs),
+            _ => {
+                let orders = orders_after(&self.words, &self.state.orders, &theirs.orders);
+                devices_in(ours) == devices_after(&self.words, theirs) && orders_in(ours) == orders
+            }
         };
-        devices && meant(*ours) == meant(words_of(theirs))
+        exact && meant(*ours) == meant(words_of(theirs))
     }
 
-    /// What differs between the two, or from what 01 says of refusals and of
-    /// show; none if nothing does. A refused call other than setup must leave
+    /// What differs between the two, or from what 01 says of refusals; none if
+    /// nothing does. A refused call other than setup must leave
     /// all words as they were; after an accepted one those without a meaning
-    /// count as 0, but for devices.
+    /// count as 0, but for devices and orders.
     fn difference(&self, ours: &Outcome<Words>, theirs: &Outcome<State>) -> Option<&'static str> {
         let kept = ours.answer.refusal != 0 && !self.is_setup();
         let given = (&self.words, &self.state, &self.lent);
@@ -137,20 +138,9 @@ impl Case {
                 !kept || given == (&ours.state, &theirs.state, &ours.lent),
                 "a refused call changed something",
             ),
-            (self.part_is_right(), "show's part is not from byte 16 on"),
         ];
         let failed = tests.iter().find(|(passed, _)| !passed);
         failed.map(|(_, name)| *name)
-    }
-
-    /// Whether the independent agent's part is empty or the message from byte
-    /// 16 on.
-    fn part_is_right(&self) -> bool {
-        let Call::Show(channel, message) = &self.call else {
-            return true;
-        };
-        let part = independent::show(&self.state, *channel, message);
-        part.is_empty() || part == &message[wire::DATA_START..]
     }
 
     fn print(&self) {

@@ -2,15 +2,16 @@
 
 use super::call::{Call, Lent};
 use crate::proved::{self, Words};
-use independent::State;
+use independent::{Order, State};
 
 /// The refusal number, 0 if accepted; the length of the reply or of show's
-/// part; work's pages or drain's entries.
+/// part; work's pages or drain's entries; take's order and its delay.
 #[derive(Clone, Copy, Debug, PartialEq)]
 pub struct Answer {
     pub refusal: u64,
     pub length: usize,
     pub count: u64,
+    pub order: [u64; 2],
 }
 
 /// The refusal number; the length; the pages or entries.
@@ -19,6 +20,15 @@ pub fn answer(refusal: u64, length: usize, count: u64) -> Answer {
         refusal,
         length,
         count,
+        order: [0, 0],
+    }
+}
+
+/// What take gives: 1 and a delay for shutdown, 2 and 0 for panic.
+fn taken(refusal: u64, order: [u64; 2]) -> Answer {
+    Answer {
+        order,
+        ..answer(refusal, 0, 0)
     }
 }
 
@@ -60,6 +70,13 @@ pub fn call_proved(state: &mut Words, call: &Call, lent: &mut Lent) -> Answer {
         }
         Call::Show(channel, message) => answer(0, proved::show(state, *channel, message), 0),
         Call::Setup(blocks, devices) => answer(proved::setup(state, blocks, devices), 0, 0),
+        Call::Permit(service, permitted) => {
+            proved::permit(state, *service, *permitted, journal, out).into()
+        }
+        Call::Take => {
+            let given = proved::take(state, journal, out);
+            taken(given.refusal, [given.order, given.delay])
+        }
     }
 }
 
@@ -92,5 +109,13 @@ pub fn call_independent(state: &mut State, call: &Call, lent: &mut Lent) -> Answ
             *state = made.unwrap_or_default();
             answer(made.err().unwrap_or(0), 0, 0)
         }
+        Call::Permit(service, permitted) => {
+            independent::permit(state, *service, *permitted != 0, journal, out).into()
+        }
+        Call::Take => match independent::take(state, journal, out) {
+            Ok(Order::Shutdown { delay }) => taken(0, [1, delay]),
+            Ok(Order::Panic) => taken(0, [2, 0]),
+            Err(refusal) => taken(refusal, [0, 0]),
+        },
     }
 }

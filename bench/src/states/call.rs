@@ -15,11 +15,14 @@ pub enum Call {
     Drain,
     Show(u64, Vec<u8>),
     Setup(Vec<u64>, Vec<u64>),
+    /// Any number but 0 permits.
+    Permit(u64, u64),
+    Take,
 }
 
 /// The calls by name, and the refusal numbers that each can have; 0 is
 /// acceptance.
-pub const CALLS: [(&str, &[usize]); 8] = [
+pub const CALLS: [(&str, &[usize]); 10] = [
     ("receive", &[0, 1, 2, 3, 4, 5, 8]),
     ("offer", &[0, 1, 2, 3, 4, 5, 6, 8]),
     ("withdraw", &[0, 1, 2, 3, 4, 5, 6, 8]),
@@ -28,6 +31,8 @@ pub const CALLS: [(&str, &[usize]); 8] = [
     ("drain", &[0, 1, 8]),
     ("show", &[0]),
     ("setup", &[0, 7]),
+    ("permit", &[0, 1, 2, 3, 4, 5, 8]),
+    ("take", &[0, 1, 2, 4, 5, 6, 8]),
 ];
 
 impl Call {
@@ -42,6 +47,8 @@ impl Call {
             Call::Drain => 5,
             Call::Show(..) => 6,
             Call::Setup(..) => 7,
+            Call::Permit(..) => 8,
+            Call::Take => 9,
         }
     }
 
@@ -49,8 +56,16 @@ impl Call {
     pub fn random(random: &mut Random, state: &State) -> Call {
         let channel = place(random);
         let service = place(random);
-        match random.below(26) {
-            22.. => {
+        match random.below(34) {
+            26..=29 => {
+                let service = random.between(2, 3) as usize;
+                let channel = channel_of(random, state, service).unwrap_or(channel);
+                let message = message::for_order(random, state, channel, service);
+                Call::Receive(channel, message)
+            }
+            30 | 31 => permit(random),
+            32.. => Call::Take,
+            22..=25 => {
                 let channel = channel_of(random, state, 1).unwrap_or(channel);
                 Call::Receive(channel, message::for_device(random, state, channel))
             }
@@ -70,6 +85,13 @@ impl Call {
             _ => Call::Show(channel, message::for_show(random, state, channel)),
         }
     }
+}
+
+/// Permit, mostly of service 2 or 3.
+fn permit(random: &mut Random) -> Call {
+    let place = place(random);
+    let service = random.pick(&[2, 3, 2, 3, place, 1 << 32 | 2]);
+    Call::Permit(service, random.pick(&[0, 0, 1, 1, 2, 1 << 32, u64::MAX]))
 }
 
 /// A channel or service: mostly 0 to 3.

@@ -1,7 +1,7 @@
 //! Changes of one thing in a state to a boundary value or just past it.
 
-use super::devices;
 use super::make::{self, end_of};
+use super::{devices, orders};
 use independent::block::{MAX_BLOCKS, MAX_END, MAX_PAGES, PAGE};
 use independent::generate::random::Random;
 use independent::removal::MAX_RECORDS;
@@ -10,8 +10,9 @@ use independent::{Block, Removal, Service, State};
 
 /// Changes one thing; the state may stay sound.
 pub fn change(random: &mut Random, state: &mut State) {
-    match random.below(28) {
-        20.. => devices::change(random, &mut state.devices),
+    match random.below(30) {
+        28.. => orders::change(random, &mut state.orders),
+        20..=27 => devices::change(random, &mut state.devices),
         0..=5 => block(random, state),
         6 => block_count(random, state),
         7 => swap_blocks(random, state),

@@ -3,44 +3,87 @@
 use super::agents::Answer;
 use super::call::{Call, Lent, CALLS};
 use super::defects::{defect, DEFECTS};
+use super::spoil::SPOILT;
 use independent::device::service::REPLY_BYTES;
+use independent::order::service::{self, DENIED, PENDING};
 use independent::{wire, State};
 
-/// How many states were sound and unsound, the answers of each call by refusal
-/// number, and the parts of show that were not empty.
+/// The replies to requests of orders, as they are told.
+const REPLIES: [&str; 4] = ["success", "denied", "pending", "invalid message"];
+
+/// How many states were sound and unsound, and the answers of each call by
+/// refusal number.
 #[derive(Default)]
 pub struct Counts {
     sound: u64,
     unsound: u64,
     answers: [[u64; 9]; CALLS.len()],
-    parts: u64,
-    /// The states that a defect of devices makes unsound, by defect.
+    /// The states that a defect of devices or orders makes unsound, by defect.
     defects: [u64; DEFECTS.len()],
+    /// The states of which a word is spoilt, by what it is.
+    spoilt: [u64; SPOILT.len()],
     /// The replies to device requests by result.
     results: [u64; 4],
+    /// The replies to requests of orders.
+    replies: [u64; REPLIES.len()],
+    /// The orders taken: shutdown and panic.
+    taken: [u64; 2],
+}
+
+/// A state, and what is spoilt in its words.
+type Given<'a> = (&'a State, Option<&'static str>);
+
+/// The place of a name in a list.
+fn place(list: &[&str], name: Option<&str>) -> Option<usize> {
+    list.iter().position(|listed| Some(*listed) == name)
+}
+
+/// The data of a reply that is long enough for one of an order.
+fn data_of(answer: Answer, lent: &Lent) -> Option<&[u8]> {
+    let data = lent.output[..answer.length].get(wire::DATA_START..)?;
+    (data.len() >= service::REPLY_BYTES).then_some(data)
 }
 
 impl Counts {
-    /// Counts a call on a state, which has a mark past 1 if it is spoilt.
-    pub fn add(&mut self, given: (&State, bool), call: &Call, answer: Answer, lent: &Lent) {
+    /// Counts a call on a state, with what is spoilt in its words.
+    pub fn add(&mut self, given: Given, call: &Call, answer: Answer, lent: &Lent) {
         let (state, spoilt) = given;
-        match state.is_sound() && !spoilt {
+        match state.is_sound() && spoilt.is_none() {
             true => self.sound += 1,
             false => self.unsound += 1,
         }
-        let found = defect(&state.devices).or(spoilt.then_some(DEFECTS[8]));
-        if let Some(place) = DEFECTS.iter().position(|name| Some(*name) == found) {
+        if let Some(place) = place(&DEFECTS, defect(state)) {
             self.defects[place] += 1;
         }
-        // No other reply to a message has this length.
-        let received = matches!(call, Call::Receive(..));
-        if received && answer.length == wire::DATA_START + REPLY_BYTES {
-            let result = wire::get32(&lent.output, wire::DATA_START + 8);
-            self.results[result as usize] += 1;
+        if let Some(place) = place(&SPOILT, spoilt) {
+            self.spoilt[place] += 1;
+        }
+        if let (Call::Receive(..), Some(data)) = (call, data_of(answer, lent)) {
+            self.replied(data);
+        }
+        if let [order @ 1..=2, _] = answer.order {
+            self.taken[order as usize - 1] += 1;
         }
         self.answers[call.number()][answer.refusal as usize] += 1;
-        let part = matches!(call, Call::Show(..)) && answer.length > 0;
-        self.parts += u64::from(part);
+    }
+
+    /// Counts a reply to a device request or to one of an order. No other reply
+    /// has its length.
+    fn replied(&mut self, data: &[u8]) {
+        let result = wire::get32(data, 8);
+        let reason = &data[service::REPLY_BYTES..];
+        let order = match (result, reason) {
+            (0, b"") => 0,
+            (1, DENIED) => 1,
+            (1, PENDING) => 2,
+            (2, b"") => 3,
+            _ if data.len() == REPLY_BYTES => {
+                self.results[result as usize] += 1;
+                return;
+            }
+            _ => return,
+        };
+        self.replies[order] += 1;
     }
 
     pub fn print(&self) {
@@ -53,23 +96,27 @@ impl Counts {
             answers.iter().for_each(|count| print!("{count:>9}"));
             println!();
         }
-        println!("parts of show that are not empty: {}", self.parts);
         for (name, count) in DEFECTS.iter().zip(self.defects) {
-            println!("devices with {name}: {count}");
+            println!("states with {name}: {count}");
+        }
+        for (name, count) in SPOILT.iter().zip(self.spoilt) {
+            println!("states with {name}: {count}");
         }
         println!("device requests by result: {:?}", self.results);
+        for (name, count) in REPLIES.iter().zip(self.replies) {
+            println!("requests of orders, {name}: {count}");
+        }
+        println!("orders taken, shutdown and panic: {:?}", self.taken);
     }
 
-    /// Whether each call had every answer that it can have, show a part that is
-    /// not empty too; names what is missing.
+    /// Whether each call had every answer that it can have; names what is
+    /// missing.
     pub fn are_whole(&self) -> bool {
-        let mut whole = self.parts > 0;
+        let defects = [&self.defects[..], &self.spoilt].concat();
+        let results = [&self.results[..], &self.replies, &self.taken].concat();
+        let mut whole = !defects.contains(&0) && !results.contains(&0);
         if !whole {
-            println!("show never had a part that is not empty");
-        }
-        if self.defects.contains(&0) || self.results.contains(&0) {
-            println!("a defect of devices or a result of a request never came");
-            whole = false;
+            println!("a defect, a result of a request or an order never came");
         }
         for ((name, possible), answers) in CALLS.iter().zip(&self.answers) {
             for number in possible.iter().filter(|number| answers[**number] == 0) {

@@ -1,10 +1,9 @@
-//! What breaks the rules of devices, for the counts.
+//! What breaks the rules of devices and orders, for the counts.
 
 use independent::device::{MAX_DEVICES, MAX_NAME};
-use independent::{Device, Devices};
+use independent::{Device, Devices, State};
 
-/// Every way to break the rules in a state's words; the last one is not in the
-/// independent agent's form.
+/// Every way to break the rules that the independent agent's form has.
 pub const DEFECTS: [&str; 9] = [
     "33 devices",
     "more devices",
@@ -14,7 +13,7 @@ pub const DEFECTS: [&str; 9] = [
     "an inner zero",
     "a byte after the name",
     "an id and name twice",
-    "a mark past 1",
+    "a delay past 32 bits",
 ];
 
 /// What is wrong with a device alone.
@@ -33,8 +32,13 @@ fn of_device(device: &Device) -> Option<&'static str> {
     }
 }
 
-/// The first thing that is wrong with devices.
-pub fn defect(devices: &Devices) -> Option<&'static str> {
+/// The first thing that is wrong with devices, or else with orders.
+pub fn defect(state: &State) -> Option<&'static str> {
+    let past = !state.orders.keep_rules();
+    of_devices(&state.devices).or(past.then_some(DEFECTS[8]))
+}
+
+fn of_devices(devices: &Devices) -> Option<&'static str> {
     match devices.count {
         ..=MAX_DEVICES => {}
         33 => return Some(DEFECTS[0]),

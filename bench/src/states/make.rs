@@ -1,6 +1,6 @@
 //! Sound states.
 
-use super::devices;
+use super::{devices, orders};
 use independent::block::{MAX_BLOCKS, MAX_END, MAX_PAGES, PAGE};
 use independent::generate::random::Random;
 use independent::removal::MAX_RECORDS;
@@ -12,6 +12,7 @@ pub fn sound(random: &mut Random) -> State {
     let mut state = State {
         blocks: blocks(random),
         devices: devices::sound(random),
+        orders: orders::sound(random),
         last: last(random),
         ..State::default()
     };

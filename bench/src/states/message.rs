@@ -1,6 +1,6 @@
 //! Messages for a state, well and badly formed.
 
-use super::{devices, make};
+use super::{devices, make, orders};
 use independent::generate::random::Random;
 use independent::state::State;
 use independent::{build, memory, wire, Service};
@@ -36,6 +36,18 @@ pub fn for_device(random: &mut Random, state: &State, channel: u64) -> Vec<u8> {
     let own = service_handle(state, channel, 1).unwrap_or(handle);
     let handle = random.pick(&[own, own, own, own, own, handle]);
     let mut message = build::data(handle, &devices::message(random, &state.devices));
+    if random.once_in(12) {
+        spoil(random, &mut message);
+    }
+    message
+}
+
+/// A request of service 2 or 3 for `channel`.
+pub fn for_order(random: &mut Random, state: &State, channel: u64, service: usize) -> Vec<u8> {
+    let handle = handle(random, state, channel);
+    let own = service_handle(state, channel, service).unwrap_or(handle);
+    let handle = random.pick(&[own, own, own, own, own, handle]);
+    let mut message = build::data(handle, &orders::message(random, service));
     if random.once_in(12) {
         spoil(random, &mut message);
     }
@@ -120,7 +132,18 @@ fn memory_message(random: &mut Random, state: &State) -> Vec<u8> {
     let highest = random.pick(&state.highest).unwrap_or(any);
     let (below, above) = (highest.wrapping_sub(1), highest.wrapping_add(1));
     let halves = highest ^ 1 << 32;
-    let number = random.pick(&[0, 9, any, any, u64::MAX, highest, below, above, above, halves]);
+    let number = random.pick(&[
+        0,
+        9,
+        any,
+        any,
+        u64::MAX,
+        highest,
+        below,
+        above,
+        above,
+        halves,
+    ]);
     let bad = random.once_in(6);
     if random.once_in(3) {
         let argument = u32::from(bad && random.once_in(2));

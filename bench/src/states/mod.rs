@@ -9,4 +9,6 @@ pub mod devices;
 mod lists;
 pub mod make;
 mod message;
+pub mod orders;
+pub mod spoil;
 pub mod words;

@@ -6,7 +6,7 @@ use independent::block::{BLOCK_WORDS, MAX_BLOCKS};
 use independent::device::{DEVICE_WORDS, MAX_DEVICES, MAX_NAME};
 use independent::removal::MAX_RECORDS;
 use independent::state::{CHANNELS, SERVICES};
-use independent::{Block, Removal, Service, Settled, State};
+use independent::{Block, Order, Orders, Removal, Service, Settled, State};
 use std::ops::Range;
 
 const SERVICE: usize = CHANNELS;
@@ -25,11 +25,15 @@ const SIZE: usize = ADDRESS + MAX_RECORDS;
 const RESULT: usize = SIZE + MAX_RECORDS;
 const NUMBERED: usize = RESULT + MAX_RECORDS;
 const NUMBER_WORDS: usize = 2;
-const DEVICE_COUNT: usize = NUMBERED + CHANNELS * NUMBER_WORDS;
-const DEVICE: usize = DEVICE_COUNT + 1;
+pub const DEVICE_COUNT: usize = NUMBERED + CHANNELS * NUMBER_WORDS;
+pub const DEVICE: usize = DEVICE_COUNT + 1;
 const NAME_BYTES: usize = 3;
 const NAME: usize = 4;
-const END: usize = DEVICE + MAX_DEVICES * DEVICE_WORDS;
+/// Of services 2 and 3.
+pub const PERMISSION: usize = DEVICE + MAX_DEVICES * DEVICE_WORDS;
+pub const ORDER: usize = PERMISSION + 2;
+const DELAY: usize = ORDER + 1;
+const END: usize = DELAY + 1;
 
 fn service_words(service: &Service) -> [u64; SERVICE_WORDS] {
     match *service {
@@ -71,6 +75,17 @@ fn put_removal(words: &mut Words, removal: &Removal) {
     }
 }
 
+/// Permissions, the order, and a shutdown's delay, else 0.
+fn order_words(orders: &Orders) -> [u64; END - PERMISSION] {
+    let [shutdown, panic] = orders.permitted.map(u64::from);
+    let order = match orders.waiting {
+        None => [0, 0],
+        Some(Order::Shutdown { delay }) => [1, delay],
+        Some(Order::Panic) => [2, 0],
+    };
+    [shutdown, panic, order[0], order[1]]
+}
+
 /// The words of a state; without a removal its words are 0.
 pub fn words_of(state: &State) -> Words {
     let mut words = [0; END];
@@ -101,6 +116,7 @@ pub fn words_of(state: &State) -> Words {
         let at = DEVICE + number * DEVICE_WORDS;
         words[at..at + DEVICE_WORDS].copy_from_slice(&device.words());
     }
+    words[PERMISSION..].copy_from_slice(&order_words(&state.orders));
     words
 }
 
@@ -113,21 +129,10 @@ pub fn lists_of(words: &Words) -> (Vec<u64>, Vec<u64>) {
     (blocks.to_vec(), devices.to_vec())
 }
 
-/// Gives a mark of a device a value that the independent agent's form does not
-/// have; false if there is no device.
-pub fn spoil_mark(words: &mut Words, device: u64, mark: usize, value: u64) -> bool {
-    let count = words[DEVICE_COUNT].min(MAX_DEVICES as u64);
-    if count == 0 {
-        return false;
-    }
-    words[DEVICE + (device % count) as usize * DEVICE_WORDS + mark] = value;
-    true
-}
-
 /// The words of devices after a call, those without a meaning too: as they
 /// were given, but for the states of the devices that count.
 pub fn devices_after(given: &Words, state: &State) -> Vec<u64> {
-    let mut words = given[DEVICE_COUNT..].to_vec();
+    let mut words = devices_in(given).to_vec();
     let listed = state.devices.list.iter().take(state.devices.count);
     for (number, device) in listed.enumerate() {
         words[DEVICE - DEVICE_COUNT + number * DEVICE_WORDS + 1] = device.configured.into();
@@ -137,7 +142,23 @@ pub fn devices_after(given: &Words, state: &State) -> Vec<u64> {
 
 /// The words of devices in a state.
 pub fn devices_in(words: &Words) -> &[u64] {
-    &words[DEVICE_COUNT..]
+    &words[DEVICE_COUNT..PERMISSION]
+}
+
+/// The words of permissions and the order after a call, that of the delay
+/// included: as they were given, but for a permission set and, where an order
+/// was left or taken, both of its words.
+pub fn orders_after(given: &Words, before: &Orders, after: &Orders) -> [u64; END - PERMISSION] {
+    let mut words = order_words(after);
+    if before.waiting == after.waiting {
+        words[ORDER - PERMISSION..].copy_from_slice(&given[ORDER..]);
+    }
+    words
+}
+
+/// The words of permissions and the order in a state.
+pub fn orders_in(words: &Words) -> &[u64] {
+    &words[PERMISSION..]
 }
 
 /// The words of a channel's request numbers that say nothing: both while the
@@ -145,7 +166,10 @@ pub fn devices_in(words: &Words) -> &[u64] {
 fn free_of_numbers(words: &Words, channel: usize) -> Range<usize> {
     let at = NUMBERED + channel * NUMBER_WORDS;
     let end = at + NUMBER_WORDS;
-    match (words[SERVICE + channel * SERVICES * SERVICE_WORDS], words[at]) {
+    match (
+        words[SERVICE + channel * SERVICES * SERVICE_WORDS],
+        words[at],
+    ) {
         (2, 0) => at + 1..end,
         (2, _) => end..end,
         _ => at..end,
@@ -171,9 +195,10 @@ fn free_of_device(words: &Words, device: usize) -> Range<usize> {
 }
 
 /// The words that 01 and 02 give no meaning in this state: those of services,
-/// blocks and devices past the count, those past a device's name, a removal's
-/// words while none is outstanding, its records past the count, its results
-/// from the position on, and those of request numbers.
+/// blocks and devices past the count, those past a device's name, the delay
+/// without a shutdown's order, a removal's words while none is outstanding, its
+/// records past the count, its results from the position on, and those of
+/// request numbers.
 fn free(words: &Words) -> Vec<Range<usize>> {
     let taken = |word: usize, most: usize| words[word].min(most as u64) as usize;
     let stages = (SERVICE..BLOCK_COUNT).step_by(SERVICE_WORDS);
@@ -182,7 +207,8 @@ fn free(words: &Words) -> Vec<Range<usize>> {
     ranges.extend((0..CHANNELS).map(|channel| free_of_numbers(words, channel)));
     let devices = taken(DEVICE_COUNT, MAX_DEVICES);
     ranges.extend((0..devices).map(|device| free_of_device(words, device)));
-    ranges.push(DEVICE + devices * DEVICE_WORDS..END);
+    ranges.push(DEVICE + devices * DEVICE_WORDS..PERMISSION);
+    ranges.push(if words[ORDER] == 1 { END } else { DELAY }..END);
     if words[OUTSTANDING] == 0 {
         ranges.push(CANCELLED..NUMBERED);
         return ranges;

@@ -8,6 +8,7 @@ use denote.Ref.{now}
 use Rattle.model.specs.declared.Answer.{Answer}
 use Rattle.model.specs.declared.Started.{Started}
 use Rattle.model.specs.declared.Worked.{Worked}
+use Rattle.model.specs.declared.TakenOrder.{TakenOrder}
 use Rattle.model.specs.declared.Drained.{Drained}
 use Rattle.model.specs.Contracts.{
   SetupPost,
@@ -16,6 +17,8 @@ use Rattle.model.specs.Contracts.{
   WithdrawPost,
   ClosePost,
   WorkPost,
+  PermitPost,
+  TakePost,
   DrainPost,
   ShowPost,
 }
@@ -31,6 +34,10 @@ use Rattle.agent.proofs.receive.Kinds as receive-kinds
 use Rattle.agent.proofs.receive.Reads as receive-reads
 use Rattle.agent.proofs.work.Kinds as work-kinds
 use Rattle.agent.proofs.work.Reads as work-reads
+use Rattle.agent.proofs.permit.Kinds as permit-kinds
+use Rattle.agent.proofs.permit.Reads as permit-reads
+use Rattle.agent.proofs.take.Kinds as take-kinds
+use Rattle.agent.proofs.take.Reads as take-reads
 use Rattle.agent.proofs.drain.Kinds as drain-kinds
 use Rattle.agent.proofs.drain.Reads as drain-reads
 use Rattle.agent.proofs.show.Kinds as show-kinds
@@ -77,6 +84,18 @@ work-told κs a r e p = p
 
 pub work-asks : (κs : Lfts 3) (a : Dens κs work-kinds.ps) → work-reads.Asked κs a
 work-asks κs a = tt
+
+pub permit-told : (κs : Lfts 3) (a : Dens κs permit-kinds.ps) (r : Answer) (e : AtExit (endedOf 3 permit-kinds.ps permit-kinds.r) κs) → permit-reads.Learnt κs a r e → PermitPost (now (a .0)) (now (a .1 .1 .1 .0)) (a .1 .0) (a .1 .1 .0) (now (a .1 .1 .1 .1 .0)) r (now (e .0)) (now (e .1 .1 .1 .0)) (now (e .1 .1 .1 .1 .0))
+permit-told κs a r e p = p
+
+pub permit-asks : (κs : Lfts 3) (a : Dens κs permit-kinds.ps) → permit-reads.Asked κs a
+permit-asks κs a = tt
+
+pub take-told : (κs : Lfts 3) (a : Dens κs take-kinds.ps) (r : TakenOrder) (e : AtExit (endedOf 3 take-kinds.ps take-kinds.r) κs) → take-reads.Learnt κs a r e → TakePost (now (a .0)) (now (a .1 .0)) (now (a .1 .1 .0)) r (now (e .0)) (now (e .1 .0)) (now (e .1 .1 .0))
+take-told κs a r e p = p
+
+pub take-asks : (κs : Lfts 3) (a : Dens κs take-kinds.ps) → take-reads.Asked κs a
+take-asks κs a = tt
 
 -- drain is lent its journal to be read: the journal after it is the journal before it
 pub drain-told : (κs : Lfts 3) (a : Dens κs drain-kinds.ps) (r : Drained) (e : AtExit (endedOf 3 drain-kinds.ps drain-kinds.r) κs) → drain-reads.Learnt κs a r e → DrainPost (now (a .0)) (now (a .1 .0)) (now (a .1 .1 .0)) r (now (e .0)) (now (a .1 .0)) (now (e .1 .1 .0))

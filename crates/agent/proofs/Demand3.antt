@@ -11,10 +11,11 @@ use Prim.Native.Nat.{ℕ}
 use Rattle.model.specs.declared.Answer.{Answer}
 use Rattle.model.specs.declared.Started.{Started}
 use Rattle.model.specs.declared.Worked.{Worked}
+use Rattle.model.specs.declared.TakenOrder.{TakenOrder}
 use Rattle.model.specs.declared.Drained.{Drained}
-use Rattle.model.specs.Calls.{receive, offer, withdraw, close, work, Call, act, drain, Outcome}
+use Rattle.model.specs.Calls.{receive, offer, withdraw, close, work, permit, takeOrder, Call, act, drain, Outcome}
 use Rattle.model.specs.Demand3.{Run, Done, after, newRun}
-use Rattle.model.specs.Contracts.{answered, worked, emptied, Meets, answers, works, drains, AllMeet, ListHolds}
+use Rattle.model.specs.Contracts.{answered, worked, taken, emptied, Meets, answers, works, takes, drains, AllMeet, ListHolds}
 use Rattle.model.proofs.ListsHold as model-proof
 use Rattle.agent.proofs.setup.Kinds as setup-kinds
 use Rattle.agent.proofs.setup.Reads as setup-reads
@@ -28,6 +29,10 @@ use Rattle.agent.proofs.close.Kinds as close-kinds
 use Rattle.agent.proofs.close.Reads as close-reads
 use Rattle.agent.proofs.work.Kinds as work-kinds
 use Rattle.agent.proofs.work.Reads as work-reads
+use Rattle.agent.proofs.permit.Kinds as permit-kinds
+use Rattle.agent.proofs.permit.Reads as permit-reads
+use Rattle.agent.proofs.take.Kinds as take-kinds
+use Rattle.agent.proofs.take.Reads as take-reads
 use Rattle.agent.proofs.drain.Kinds as drain-kinds
 use Rattle.agent.proofs.drain.Reads as drain-reads
 
@@ -63,6 +68,18 @@ pub data Called (s j : List ℕ) : Call → Outcome → Type 1 where
       now (a .0) ≡ s →
       now (a .1 .1 .0) ≡ j →
       Called s j (act (work (a .1 .0)) (now (a .1 .1 .1 .0))) (worked r (now (e .0)) (now (e .1 .1 .0)) (now (e .1 .1 .1 .0)))
+  permitted :
+      (κs : Lfts 3) (a : Dens κs permit-kinds.ps) (r : Answer) (e : AtExit (endedOf 3 permit-kinds.ps permit-kinds.r) κs) →
+      permit-reads.Learnt κs a r e →
+      now (a .0) ≡ s →
+      now (a .1 .1 .1 .0) ≡ j →
+      Called s j (act (permit (a .1 .0) (a .1 .1 .0)) (now (a .1 .1 .1 .1 .0))) (answered r (now (e .0)) (now (e .1 .1 .1 .0)) (now (e .1 .1 .1 .1 .0)))
+  took :
+      (κs : Lfts 3) (a : Dens κs take-kinds.ps) (r : TakenOrder) (e : AtExit (endedOf 3 take-kinds.ps take-kinds.r) κs) →
+      take-reads.Learnt κs a r e →
+      now (a .0) ≡ s →
+      now (a .1 .0) ≡ j →
+      Called s j (act takeOrder (now (a .1 .1 .0))) (taken r (now (e .0)) (now (e .1 .0)) (now (e .1 .1 .0)))
   drained :
       (κs : Lfts 3) (a : Dens κs drain-kinds.ps) (r : Drained) (e : AtExit (endedOf 3 drain-kinds.ps drain-kinds.r) κs) →
       drain-reads.Learnt κs a r e →
@@ -81,6 +98,8 @@ meets (offered κs a r e p s j) = answers (rw (s, j) at p)
 meets (withdrawn κs a r e p s j) = answers (rw (s, j) at p)
 meets (closed κs a r e p s j) = answers (rw (s, j) at p)
 meets (stepped κs a r e p s j) = works (rw (s, j) at p)
+meets (permitted κs a r e p s j) = answers (rw (s, j) at p)
+meets (took κs a r e p s j) = takes (rw (s, j) at p)
 meets (drained κs a r e p s j) = drains (rw (s, j) at p)
 
 all-meet : {u : Run} {ds : List Done} → CalledAll u ds → AllMeet u ds

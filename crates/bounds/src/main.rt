@@ -17,6 +17,7 @@ use model::CHANNEL_WORDS;
 use model::COLLECTED_WORD;
 use model::CONFIGURED_PLACE;
 use model::COUNT_WORD;
+use model::DELAY_WORD;
 use model::DEVICE_CONFIGURED_PLACE;
 use model::DEVICE_COUNT_WORD;
 use model::DEVICE_WORDS;
@@ -25,11 +26,13 @@ use model::FIRST_BLOCK_WORD;
 use model::FIRST_DEVICE_WORD;
 use model::FIRST_HANDLE_WORD;
 use model::FIRST_MINOR_WORD;
+use model::FIRST_PERMISSION_WORD;
 use model::FIRST_PLACE;
 use model::FIRST_RESULT_WORD;
 use model::FIRST_SIZE_WORD;
 use model::FIRST_STAGE_WORD;
 use model::HELD_WORD;
+use model::HIGHEST_DELAY;
 use model::HIGHEST_MINOR;
 use model::HIGHEST_NUMBER;
 use model::JOURNAL_WORDS;
@@ -40,6 +43,8 @@ use model::MOST_RECORDS;
 use model::NAME_BYTES_PLACE;
 use model::NAME_PLACE;
 use model::OFFERED;
+use model::ORDER_SHUTDOWN;
+use model::ORDER_WORD;
 use model::OUTPUT_BYTES;
 use model::OUTSTANDING_WORD;
 use model::PAGES_PLACE;
@@ -208,6 +213,24 @@ fn show(before: &State, text: &mut Text, used: &mut usize) {
     answers::shown(text, used, agent::show(before, 2, data));
 }
 
+fn permit(before: &State, text: &mut Text, used: &mut usize) {
+    let mut state = *before;
+    let mut journal = [WORD; JOURNAL_WORDS];
+    let mut out = [BYTE; OUTPUT_BYTES];
+    let a = agent::permit(&mut state, 2, true, &mut journal, &mut out);
+    answers::answered(text, used, b"permit", a, &out);
+    check(before, &state, &journal, &out, text, used);
+}
+
+fn take(before: &State, text: &mut Text, used: &mut usize) {
+    let mut state = *before;
+    let mut journal = [WORD; JOURNAL_WORDS];
+    let mut out = [BYTE; OUTPUT_BYTES];
+    let a = agent::take(&mut state, &mut journal, &mut out);
+    answers::taken(text, used, a);
+    check(before, &state, &journal, &out, text, used);
+}
+
 // Each call on the same state.
 fn each_call(state: &State, text: &mut Text, used: &mut usize) {
     receive(state, text, used);
@@ -216,6 +239,8 @@ fn each_call(state: &State, text: &mut Text, used: &mut usize) {
     close(state, text, used);
     work(state, text, used);
     drain(state, text, used);
+    permit(state, text, used);
+    take(state, text, used);
     show(state, text, used);
 }
 
@@ -374,6 +399,7 @@ fn unread_words(text: &mut Text, used: &mut usize) {
         text,
         used,
     );
+    unread(b"# a delay without an order\n", DELAY_WORD, text, used);
     unread(
         b"# a third device's name, where two are held\n",
         DEVICE + 2 * DEVICE_WORDS + NAME_BYTES_PLACE,
@@ -572,6 +598,39 @@ fn names(text: &mut Text, used: &mut usize) {
     );
 }
 
+fn orders(text: &mut Text, used: &mut usize) {
+    changed(
+        b"# service 2 neither permitted nor denied\n",
+        FIRST_PERMISSION_WORD,
+        2,
+        text,
+        used,
+    );
+    changed(
+        b"# service 3 neither permitted nor denied\n",
+        FIRST_PERMISSION_WORD + 1,
+        2,
+        text,
+        used,
+    );
+    changed(
+        b"# an order that is none of the three\n",
+        ORDER_WORD,
+        3,
+        text,
+        used,
+    );
+    changed_two(
+        b"# a shutdown's delay of 2^32\n",
+        ORDER_WORD,
+        ORDER_SHUTDOWN,
+        DELAY_WORD,
+        HIGHEST_DELAY + 1,
+        text,
+        used,
+    );
+}
+
 fn removals(text: &mut Text, used: &mut usize) {
     changed(
         b"# a removal's channel above 3\n",
@@ -699,6 +758,7 @@ fn main() {
     removals(&mut text, &mut used);
     devices(&mut text, &mut used);
     names(&mut text, &mut used);
+    orders(&mut text, &mut used);
     last_number(&mut text, &mut used);
     last_number_but_one(&mut text, &mut used);
     unsound_first(&mut text, &mut used);

@@ -70,6 +70,12 @@ fn call(
     if fields::same(name, b"close") {
         return parsed::close(rest, state, journal, out, text, used);
     }
+    if fields::same(name, b"permit") {
+        return parsed::permit(rest, state, journal, out, text, used);
+    }
+    if fields::same(name, b"take") {
+        return parsed::take(rest, state, journal, out, text, used);
+    }
     if fields::same(name, b"show") {
         return parsed::show(rest, state, text, used);
     }

@@ -1,5 +1,6 @@
-// What a state holds, as text: channels with their live services, blocks, devices, the removal, the last entry number.
-ghost use Prim.Native.Nat.{_<_};
+// What a state holds, as text: channels with their live services, blocks, devices, permissions, the order, the removal, the last entry number.
+ghost use Prim.Native.Nat.{_≤_, _<_};
+use crate::answers;
 use lines::output;
 use lines::output::Text;
 use model::CHANNEL_COUNT;
@@ -7,10 +8,12 @@ use model::IDLE;
 use model::MOST_BLOCKS;
 use model::MOST_DEVICES;
 use model::OFFERED;
+use model::PANIC_SERVICE;
 use model::SERVICE_COUNT;
+use model::SHUTDOWN_SERVICE;
 use model::State;
 use model::lower;
-ghost use Rattle.model.specs.Layout.{channelCount, mostBlocks, mostDevices, placeCount};
+ghost use Rattle.model.specs.Layout.{channelCount, mostBlocks, mostDevices, placeCount, serviceCount, shutdownService};
 
 // The service at place k, if it is not idle.
 fn put_service(text: &mut Text, used: &mut usize, state: &State, service: u64, k: usize)
@@ -106,6 +109,26 @@ fn put_devices(text: &mut Text, used: &mut usize, state: &State) {
     }
 }
 
+fn put_permission(text: &mut Text, used: &mut usize, state: &State, service: usize)
+    requires { ⌜ shutdownService ≤ service ⌝ }
+    requires { ⌜ service < serviceCount ⌝ }
+{
+    output::put(text, used, b"permission");
+    output::put_decimal(text, used, service as u64);
+    if orders::is_permitted(state, service) {
+        output::put(text, used, b" permitted\n");
+    } else {
+        output::put(text, used, b" denied\n");
+    }
+}
+
+fn put_orders(text: &mut Text, used: &mut usize, state: &State) {
+    put_permission(text, used, state, SHUTDOWN_SERVICE);
+    put_permission(text, used, state, PANIC_SERVICE);
+    output::put(text, used, b"order");
+    answers::put_order(text, used, orders::order_of(state), orders::delay_of(state));
+}
+
 // An outstanding removal: the record at its position, and the pages collected.
 fn put_removal(text: &mut Text, used: &mut usize, state: &State) {
     if !state::is_outstanding(state) {
@@ -127,6 +150,7 @@ pub(crate) fn put_state(text: &mut Text, used: &mut usize, state: &State) {
     put_channels(text, used, state);
     put_blocks(text, used, state);
     put_devices(text, used, state);
+    put_orders(text, used, state);
     put_removal(text, used, state);
     output::put(text, used, b"entries");
     output::put_decimal(text, used, state::last_of(state));

@@ -198,6 +198,42 @@ pub(crate) fn close(
     true
 }
 
+// A service, and 1 if requests to it are permitted from now on, else 0.
+pub(crate) fn permit(
+    rest: &[u8],
+    state: &mut State,
+    journal: &mut [u64],
+    out: &mut [u8],
+    text: &mut Text,
+    used: &mut usize,
+) -> bool {
+    let Numbers::Are(service, permitted) = exactly(2, rest) else {
+        return false;
+    };
+    if 1 < permitted {
+        return false;
+    }
+    let a = agent::permit(state, service as usize, permitted == 1, journal, out);
+    answers::answered(text, used, b"permit", a, out);
+    true
+}
+
+pub(crate) fn take(
+    rest: &[u8],
+    state: &mut State,
+    journal: &mut [u64],
+    out: &mut [u8],
+    text: &mut Text,
+    used: &mut usize,
+) -> bool {
+    if rest.len() != 0 {
+        return false;
+    }
+    let a = agent::take(state, journal, out);
+    answers::taken(text, used, a);
+    true
+}
+
 pub(crate) fn work(
     rest: &[u8],
     state: &mut State,

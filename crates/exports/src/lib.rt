@@ -10,9 +10,11 @@ ghost use Rattle.model.specs.Contracts.{
   WithdrawPost,
   ClosePost,
   WorkPost,
+  PermitPost,
+  TakePost,
   DrainPost,
 };
-ghost use Rattle.model.specs.Layout.{dataHeaderBytes};
+ghost use Rattle.model.specs.Layout.{dataHeaderBytes, isSet};
 ghost use Rattle.model.specs.Calls.{shown};
 ghost use lib.ListN.{length, take, drop};
 ghost use mathlib.Core.Path.{_≡_};
@@ -95,6 +97,45 @@ pub extern "C" fn arkelutz_work(
     Answer {
         refusal: worked.refusal,
         length: worked.length,
+    }
+}
+
+// Any number but 0 is permitted.
+#[no_mangle]
+pub extern "C" fn arkelutz_permit(
+    state: &mut State,
+    service: usize,
+    permitted: u64,
+    journal: &mut [u64],
+    out: &mut [u8],
+) -> Answer
+    ensures { λ r. ⌜ PermitPost (now (state .entry)) (now (journal .entry)) service (isSet permitted) (now (out .entry)) r (now (state .exit)) (now (journal .exit)) (now (out .exit)) ⌝ }
+{
+    agent::permit(state, service, permitted != 0, journal, out)
+}
+
+// The answer of take: the refusal, and the order (0 none, 1 shutdown, 2 panic).
+#[repr(C)]
+pub struct Taken {
+    pub refusal: u64,
+    pub order: u64,
+}
+
+// A shutdown's delay in milliseconds is written to delay; with a panic and on a refusal, 0.
+#[no_mangle]
+pub extern "C" fn arkelutz_take(
+    state: &mut State,
+    journal: &mut [u64],
+    out: &mut [u8],
+    delay: &mut u64,
+) -> Taken
+    ensures { λ r. ⌜ TakePost (now (state .entry)) (now (journal .entry)) (now (out .entry)) (record { refusal = r .refusal; order = r .order; delay = now (delay .exit) }) (now (state .exit)) (now (journal .exit)) (now (out .exit)) ⌝ }
+{
+    let taken = agent::take(state, journal, out);
+    *delay = taken.delay;
+    Taken {
+        refusal: taken.refusal,
+        order: taken.order,
     }
 }
 

@@ -12,14 +12,15 @@ use Rattle.model.specs.Choice.{pick}
 use Rattle.model.specs.State.{sound}
 use Rattle.model.specs.Refusals.{Refusal, refusalIn, actionRefusal, drainRefusal}
 use Rattle.model.specs.Messages.{Effect}
-use Rattle.model.specs.Calls.{Action, Outcome, accepted, act, allowed, close, drain, drained, effectOf, inRange, offer, outcome, pagesOf, receive, refusalOf, refused, withdraw, work}
+use Rattle.model.specs.Calls.{Action, Outcome, accepted, act, allowed, close, drain, drained, effectOf, inRange, offer, outcome, pagesOf, receive, refusalOf, refused, withdraw, work, permit, takeOrder}
 use Rattle.model.proofs.Choice.{on-pick, both}
 use Rattle.model.proofs.Rules.{sound-facts}
 use Rattle.model.proofs.Rules.{Given}
 use Rattle.model.proofs.Effects.{Good, closing-good, offering-good, withdrawing-good}
 use Rattle.model.proofs.WorkEffects.{working-good}
 use Rattle.model.proofs.ReceiveEffects.{receiving-good}
-use Rattle.model.specs.Layout.{channelCount, entryWords, heldOf, highestNumber, journalWords, lastOf, mostBudget, mostHeld, outputBytes, serviceCount, stageIdle, stateWords}
+use Rattle.model.proofs.OrderEffects.{permitting-good, taking-good}
+use Rattle.model.specs.Layout.{channelCount, entryWords, heldOf, highestNumber, journalWords, lastOf, mostBudget, mostHeld, outputBytes, serviceCount, stageIdle, stateWords, shutdownService, panicService}
 
 -- A row of a table that refuses nothing: the first does not apply, and neither does a later one.
 pub row-passed : (r : Refusal) (rs : List Refusal) → eqb (r .number) 0 ≡ false → refusalIn (r ∷ rs) ≡ 0 → (r .when ≡ false) × (refusalIn rs ≡ 0)
@@ -81,6 +82,11 @@ action-good s g (close c) r p = closing-good s g c 0 (ltb-true c channelCount r)
 action-good s g (work budget) r p =
     let b = both _ _ r in
     working-good s g budget p (leb-true 1 budget (b .0)) (leb-true budget mostBudget (b .1))
+action-good s g (permit v permitted) r p =
+    let b = both _ _ r in
+    let most = leb-true v panicService (b .1) in
+    permitting-good s g v permitted (leb-true shutdownService v (b .0)) (omega arith)
+action-good s g takeOrder r p = taking-good s g
 
 -- an accepted action
 pub record Taken (s j out : List ℕ) (e : Effect) : Type 0 where

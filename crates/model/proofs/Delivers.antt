@@ -21,6 +21,7 @@ use Rattle.model.specs.Memory.{memoryReply, Progress, answeredMemory, an
 use Rattle.model.specs.Calls.{act, accepted, allowed, dataFor, effectOf, heard, hears, inRange, outcome, pagesOf, receive, receiving, refusalOf, refused, routed}
 use Rattle.model.specs.Devices.{namedDevice}
 use Rattle.model.specs.DeviceRequests.{operationOf, deviceNumber, deviceId, deviceType, deviceName, deviceReply, answeringDevice, askingDevice, deviceFor, answeredDevice}
+use Rattle.model.specs.Orders.{orderNumber, orderReply, notOrdered, ordering, orderingFor, answeredOrder}
 use Rattle.model.specs.Reading.{none, viewOf}
 use Rattle.model.specs.Demand3.{sameBytes, Delivers, WellFormedData, reached, replyOf, showsRegistered, showsService}
 use Rattle.model.proofs.Choice.{clash, on-pick, on-first, first-nowhere, both}
@@ -29,7 +30,7 @@ use Rattle.model.proofs.Rules.{Sound, live-rules}
 use Rattle.model.proofs.MemoryEffects.{on-memory, numbered}
 use Rattle.model.proofs.Calls.{Taken, taken, passed, on-act}
 use Rattle.model.proofs.Kept.{noted-is}
-use Rattle.model.specs.Layout.{channelCount, dataHeaderBytes, handleAt, memoryService, deviceService, placeCount, placeOf, readyAt, serviceCount, stageAt, stageRegistered, stateWords}
+use Rattle.model.specs.Layout.{channelCount, dataHeaderBytes, handleAt, memoryService, deviceService, shutdownService, panicService, placeCount, placeOf, readyAt, serviceCount, stageAt, stageRegistered, stateWords}
 
 -- well-formed data is decoded as data under its handle
 pub data-decoded : (m : List ℕ) (handle : ℕ) → WellFormedData m handle → decoded m ≡ Data handle
@@ -112,6 +113,10 @@ memory-no-nack handle h type argument request records = refl
 device-no-nack : (handle h request result status : ℕ) → sameBytes (deviceReply h request result status) (nack handle DS-INV-HDL) ≡ false
 unfolding deviceReply dsData dsMessage nack bytesOf sameBytes _and_
 device-no-nack handle h request result status = refl
+
+order-no-nack : (handle h request result : ℕ) (reason : List ℕ) → sameBytes (orderReply h request result reason) (nack handle DS-INV-HDL) ≡ false
+unfolding orderReply dsData dsMessage nack bytesOf sameBytes _and_
+order-no-nack handle h request result reason = refl
 
 empty-no-nack : (handle : ℕ) → sameBytes [] (nack handle DS-INV-HDL) ≡ false
 unfolding dsMessage nack bytesOf sameBytes
@@ -199,6 +204,23 @@ module _ (s : List ℕ) (c handle : ℕ) where
       named (At i) = unfold deviceFor askingDevice in (told _ _ _ _ _ (unfold servedBy pick _and_ _or_ in refl))
       named Nowhere = unfold deviceFor answeringDevice in (told _ s _ _ _ (served-answered c deviceService _ _))
 
+  -- every answer of a service of orders tells of it
+  orders-tell : (v : ℕ) (payload : List ℕ) → reachedBy handle (answeredOrder s c handle v payload) ≡ At v
+  unfolding answeredOrder orderingFor
+  orders-tell v payload =
+      on-pick (λ (e : Effect). reachedBy handle e ≡ At v) _ _ _ (λ _. not-left _ _ _)
+      (λ _. on-pick (λ (e : Effect). reachedBy handle e ≡ At v) _ _ _ (λ _. not-left _ _ _)
+      (λ _. on-pick (λ (e : Effect). reachedBy handle e ≡ At v) _ _ _ (λ _. not-left _ _ _)
+      (λ _. on-pick (λ (e : Effect). reachedBy handle e ≡ At v) _ _ _ (λ _. left _ _) (λ _. left _ _))))
+    where
+      not-left : (request result : ℕ) (reason : List ℕ) → reachedBy handle (notOrdered s c handle v request result reason) ≡ At v
+      not-left request result reason =
+          unfold notOrdered reachedBy pick in (rw (order-no-nack handle handle request result reason) (unfold servedBy pick _or_ in refl))
+
+      left : (order delay : ℕ) → reachedBy handle (ordering s c handle v (orderNumber payload) order delay) ≡ At v
+      left order delay =
+          unfold ordering reachedBy pick in (rw (order-no-nack handle handle (orderNumber payload) _ []) (unfold servedBy pick _or_ in refl))
+
   host-tells : (v : ℕ) → reachedBy handle (effect (deliveredEvent c v) s []) ≡ At v
   unfolding reachedBy servedBy pick _or_
   host-tells v = rw (empty-no-nack handle)
@@ -211,12 +233,13 @@ module _ (s : List ℕ) (c handle : ℕ) where
   data-tells : (payload : List ℕ) (x : Found) → reachedBy handle (dataFor s c handle payload x) ≡ x
   unfolding dataFor
   data-tells payload Nowhere = none-tells (dataRefusedEvent c handle) _ (unfold servedBy pick _and_ _or_ in refl)
-  data-tells payload (At v) = go (eqb v memoryService) refl (eqb v deviceService) refl
+  data-tells payload (At v) = go (eqb v memoryService) refl (eqb v deviceService) refl (eqb v shutdownService or eqb v panicService) refl
     where
-      go : (b : Bool) → eqb v memoryService ≡ b → (d : Bool) → eqb v deviceService ≡ d → reachedBy handle (routed s c handle payload v (route v)) ≡ At v
-      go true z d y = unfold route pick routed in rw z (memory-tells payload ∙ ap At (sym (eqb-true v memoryService z)))
-      go false z true y = unfold route pick routed in rw (z, y) (devices-tell payload ∙ ap At (sym (eqb-true v deviceService y)))
-      go false z false y = unfold route pick routed in rw (z, y) (host-tells v)
+      go : (b : Bool) → eqb v memoryService ≡ b → (d : Bool) → eqb v deviceService ≡ d → (o : Bool) → (eqb v shutdownService or eqb v panicService) ≡ o → reachedBy handle (routed s c handle payload v (route v)) ≡ At v
+      go true z d y o x = unfold route pick routed in rw z (memory-tells payload ∙ ap At (sym (eqb-true v memoryService z)))
+      go false z true y o x = unfold route pick routed in rw (z, y) (devices-tell payload ∙ ap At (sym (eqb-true v deviceService y)))
+      go false z false y true x = unfold route pick routed in rw (z, y, x) (orders-tell v payload)
+      go false z false y false x = unfold route pick routed in rw (z, y, x) (host-tells v)
 
 -- a message that closes the channel reaches no service
 closing-tells : (s : List ℕ) (c by handle : ℕ) → reachedBy handle (closing s c by) ≡ Nowhere

@@ -11,7 +11,7 @@ use Rattle.model.specs.Blocks.{Lists, acceptedLists, setupState}
 use Rattle.model.specs.Calls.{Outcome, started, effectOf}
 use Rattle.model.specs.Layout.{Device, devicesOf, firstDeviceWord, lastOf, withCounts}
 use Rattle.model.specs.Devices.{devicesKeep}
-use Rattle.model.specs.Reading.{View, reading, setupView, devicesShown, setupDevices, readDevices, readingDevices}
+use Rattle.model.specs.Reading.{View, reading, setupView, devicesShown, setupDevices, readDevices, readingDevices, Orders, ordersShown, setupOrders, readOrders, readingOrders}
 use Rattle.entry.specs.declared.Fields.{Fields}
 use Rattle.entry.specs.Word.{unpacked}
 use Rattle.model.specs.Messages.{Effect}
@@ -20,7 +20,8 @@ use Rattle.model.specs.Contracts.{Meets, AllMeet, SetupPost, OfEveryList
 use Rattle.model.proofs.Rules.{sound-facts}
 use Rattle.model.proofs.Setup.{starts}
 use Rattle.model.proofs.Words.{counts-frame}
-use Rattle.model.proofs.Devices.{shown-same, turn-keeps, turn-shown}
+use Rattle.model.proofs.Devices.{shown-same}
+use Rattle.model.proofs.Above.{turn-keeps, turn-shown, turn-ordered, orders-shown-same}
 use Rattle.model.proofs.Ring.{fields-back}
 use Rattle.model.proofs.Calls.{Taken, taken}
 use Rattle.model.proofs.Lists.{Kept, AfterCall, grown, shifted, entries-grown, entries-shifted, meets-outcome, on-list}
@@ -88,6 +89,12 @@ devices-first l r j e z =
     let f = at-first l r j e z in
     rw (f .state) (sym (starts l (f .accepted) .devices))
 
+orders-first : (l : Lists) (r : Started) (j : List ℕ) → SetupPost l r → r .refusal ≡ 0 → readingOrders setupOrders (entries (newRun (r .state) j)) ≡ ordersShown (r .state)
+unfolding entries entriesAt readingOrders
+orders-first l r j e z =
+    let f = at-first l r j e z in
+    rw (f .state) (sym (starts l (f .accepted) .orders))
+
 -- up to each place of a list
 pub kept-meeting : (b : View) (u : Run) (ds : List Done) → AllMeet u ds → Kept b u → Kept b (runs u ds)
 kept-meeting b u ds m k =
@@ -116,10 +123,35 @@ devices-step b ds u k q = record {
     grows : (e : Effect) (out : List ℕ) → Taken (u .state) (u .journal) out e → readingDevices ds (entries (grown u e)) ≡ devicesShown (grown u e .state)
     grows e out t =
         let old = t .given .facts .devices in
-        let turn = t .good .devices in
+        let turn = t .good .above in
         rw (entries-grown b u e out k t, devices-append, q)
         (unfold entryOf in (ap (λ (x : Fields). readDevices x (e .event .word) (devicesShown (u .state))) (fields-back (lastOf (u .state) + 1) (e .event) (t .good .entry .range))
         ∙ sym (unfold grown in (devices-counted (e .state) _ _ (turn-keeps (u .state) (t .given .size) old e turn)) ∙ turn-shown (u .state) (t .given .size) old e (lastOf (u .state) + 1) turn)))
+
+-- and the permissions and the order
+abbrev OrdersRead : Run → Type 0
+OrdersRead u = readingOrders setupOrders (entries u) ≡ ordersShown (u .state)
+
+orders-append : (o : Orders) (es : List Entry) (e : Entry) → readingOrders o (es ++ e ∷ []) ≡ readOrders (unpacked (e .first)) (e .second) (readingOrders o es)
+unfolding readingOrders
+orders-append o [] e = refl
+orders-append o (x ∷ es) e = orders-append (readOrders (unpacked (x .first)) (x .second) o) es e
+
+orders-counted : (s : List ℕ) (last held : ℕ) → ordersShown (withCounts s last held) ≡ ordersShown s
+orders-counted s last held = orders-shown-same s (withCounts s last held) (λ j lo hi. counts-frame s last held j (λ p q. omega arith))
+
+orders-step : (b : View) (u : Run) → Kept b u → OrdersRead u → AfterCall OrdersRead u
+orders-step b u k q = record {
+  onAct = λ a out z. grows (effectOf (u .state) a) out (taken (u .state) (u .journal) out a (k .size) z);
+  onDrain = λ n h. rw (entries-shifted b u n h k) (q ∙ sym (unfold shifted in (orders-counted (u .state) _ _)));
+  onRefusal = q;
+}
+  where
+    grows : (e : Effect) (out : List ℕ) → Taken (u .state) (u .journal) out e → readingOrders setupOrders (entries (grown u e)) ≡ ordersShown (grown u e .state)
+    grows e out t =
+        rw (entries-grown b u e out k t, orders-append, q)
+        (unfold entryOf in (ap (λ (x : Fields). readOrders x (e .event .word) (ordersShown (u .state))) (fields-back (lastOf (u .state) + 1) (e .event) (t .good .entry .range))
+        ∙ sym (unfold grown in (orders-counted (e .state) _ _) ∙ turn-ordered (u .state) (t .given .size) (t .given .facts .devices) e (lastOf (u .state) + 1) (t .good .above))))
 
 pub demand3 : OfEveryList (λ l s j ds. Demand3 l s j ds (runs (newRun s j) ds))
 demand3 l r j ds e z m =
@@ -136,6 +168,8 @@ demand3 l r j ds e z m =
           on-list (setupView l) (DevicesRead (setupDevices l)) (devices-step (setupView l) (setupDevices l)) (newRun (r .state) j) ds m first
           (devices-first l r j e z)
           .1;
+      readsOrders =
+          on-list (setupView l) OrdersRead (orders-step (setupView l)) (newRun (r .state) j) ds m first (orders-first l r j e z) .1;
       delivers =
           λ before later c handle msg out o q d y.
           let m′ = rw q at m in

@@ -20,7 +20,8 @@ use Rattle.model.specs.Replay.{showsReady, showsStage, isRegistered}
 use Rattle.model.proofs.Choice.{on-pick, first-facts}
 use Rattle.model.proofs.Words.{device-frame, device-length}
 use Rattle.model.proofs.View.{counted-view}
-use Rattle.model.proofs.Devices.{device-facts, flag-few, oneAsked}
+use Rattle.model.proofs.Devices.{device-facts, flag-few}
+use Rattle.model.proofs.Above.{asksDevice}
 use Rattle.model.proofs.Rules.{Given}
 use Rattle.model.proofs.Sounds.{base-same, removes-same}
 use Rattle.model.proofs.Turns.{leaves, aside, same-blocks, same-removal}
@@ -95,7 +96,7 @@ module _ (s : List ℕ) (g : Given s) (c : ℕ) (h : ReachesDevices s c) where
             (same-removal s (withDevice s i flag) (λ j lo hi. e j (λ p q. omega arith)))
             refl;
         need = device-needs _ _ c result i flag;
-        devices = oneAsked i flag l small (λ j lo hi. refl) refl refl refl;
+        above = asksDevice i flag l small (λ j lo hi. refl) refl refl refl;
       }
 
   asking-good : (handle request : ℕ) (o : DeviceOperation) (i : ℕ) → o .configured ≤ 1 → i < devicesOf s → Good s (askingDevice s c handle request o i)

@@ -7,13 +7,11 @@ use mathlib.Core.Bool.{Bool, true, false, not}
 use mathlib.Core.List.{List, [], _∷_}
 use lib.ListN.{length, getD, set}
 use lib.Dec.{eqb, leb}
-use borrow.Author.Tests.{leb-true, le-leb, eqb-true, eqb-false, ne-eqb}
-use Rattle.model.specs.Choice.{pick, _and_, every, tabulate}
-use Rattle.model.specs.Layout.{Device, noDevice, deviceIn, deviceAt, nameBytesIn, nameByteIn, devicesOf, wordBytes, namePlace, nameBytesPlace, busyPlace, deviceConfiguredPlace, deviceWords, mostDevices, mostNameBytes, deviceCountWord, firstDeviceWord, stateWords, withDevice}
+use borrow.Author.Tests.{leb-true, le-leb, eqb-true, eqb-false}
+use Rattle.model.specs.Choice.{_and_, every, tabulate}
+use Rattle.model.specs.Layout.{Device, noDevice, deviceIn, deviceAt, nameBytesIn, nameByteIn, devicesOf, wordBytes, namePlace, nameBytesPlace, busyPlace, deviceConfiguredPlace, deviceWords, mostDevices, mostNameBytes, deviceCountWord, firstDeviceWord, firstPermissionWord, stateWords, withDevice}
 use Rattle.model.specs.Devices.{wordsHolding, paddingBytes, nameKeeps, deviceKeeps, isDevice, deviceApart, devicesKeep}
-use Rattle.model.specs.Journal.{kindNoted, kindDevice, fieldsOf}
-use Rattle.model.specs.Messages.{Effect}
-use Rattle.model.specs.Reading.{devicesShown, asNow, deviceNow, readDevices}
+use Rattle.model.specs.Reading.{devicesShown, asNow, deviceNow}
 use Rattle.model.proofs.Choice.{both, join, every-at, every-make, every-same, tabulate-same, tabulate-set, tabulate-at}
 use Rattle.model.proofs.Words.{Agree, device-frame, device-word}
 
@@ -134,7 +132,7 @@ devices-keep l t at to n a flags e =
         (every-at (λ j. not (isDevice (deviceIn l at i .id) (deviceIn l at i .name) (deviceIn l at j))) i j (unfold deviceApart in old) g))))
 
 -- Of two states.
-module _ (s t : List ℕ) (a : Agree s t deviceCountWord stateWords) (e : devicesKeep s firstDeviceWord (devicesOf s) ≡ true) where
+module _ (s t : List ℕ) (a : Agree s t deviceCountWord firstPermissionWord) (e : devicesKeep s firstDeviceWord (devicesOf s) ≡ true) where
   facts : DeviceFacts s firstDeviceWord (devicesOf s)
   facts = device-facts s firstDeviceWord (devicesOf s) e
 
@@ -234,47 +232,3 @@ module _ (s : List ℕ) (i flag : ℕ) (size : length s ≡ stateWords) (h : i <
             busy = busy-same s flagged firstDeviceWord firstDeviceWord i w x;
             name = name-same s flagged firstDeviceWord firstDeviceWord i w x;
           })
-
--- What an effect of a state s does to the devices: nothing, or it sets one's flag and notes it.
-pub data DeviceTurn (s : List ℕ) (e : Effect) : Type 0 where
-  -- its kind is one of 01's
-  noneAsked : Agree s (e .state) deviceCountWord stateWords → leb (e .event .kind) kindNoted ≡ true → DeviceTurn s e
-  oneAsked :
-      (i flag : ℕ) →
-      i < devicesOf s →
-      flag ≤ 1 →
-      Agree (withDevice s i flag) (e .state) deviceCountWord stateWords →
-      e .event .kind ≡ kindDevice →
-      e .event .count ≡ i →
-      e .event .word ≡ flag →
-      DeviceTurn s e
-
-module _ (s : List ℕ) (size : length s ≡ stateWords) (old : devicesKeep s firstDeviceWord (devicesOf s) ≡ true) where
-  pub turn-keeps : (e : Effect) → DeviceTurn s e → devicesKeep (e .state) firstDeviceWord (devicesOf (e .state)) ≡ true
-  turn-keeps e (noneAsked a k) = devices-same s (e .state) a old
-  turn-keeps e (oneAsked i flag h small a k c w) = devices-same (withDevice s i flag) (e .state) a (devices-flagged s i flag size h small old)
-
-  pub turn-shown : (e : Effect) (number : ℕ) → DeviceTurn s e → devicesShown (e .state) ≡ readDevices (fieldsOf number (e .event)) (e .event .word) (devicesShown s)
-  unfolding readDevices fieldsOf
-  turn-shown e number (noneAsked a k) =
-      let least = leb-true (e .event .kind) kindNoted k in
-      rw (ne-eqb (e .event .kind) kindDevice (λ q. omega arith)) (unfold pick in (shown-same s (e .state) a old))
-  turn-shown e number (oneAsked i flag h small a k c w) =
-      rw (k, c, w)
-      (unfold pick in (shown-same (withDevice s i flag) (e .state) a (devices-flagged s i flag size h small old) ∙ shown-flagged s i flag size h small old))
-
-  -- the turn of an effect of another state with the same devices
-  pub turn-back : (t : List ℕ) (e : Effect) → length t ≡ stateWords → Agree s t deviceCountWord stateWords → DeviceTurn t e → DeviceTurn s e
-  turn-back t e n a (noneAsked b k) = noneAsked (λ j lo hi. b j lo hi ∙ a j lo hi) k
-  turn-back t e n a (oneAsked i flag h small b k c w) =
-      let g : i < devicesOf s = omega (arith, a deviceCountWord (omega arith) (omega arith)) in
-      oneAsked i flag g small (λ j lo hi. b j lo hi ∙ both-flagged i flag g j lo hi (eqb j (firstDeviceWord + i * deviceWords + deviceConfiguredPlace)) refl) k c w
-    where
-      both-flagged : (i flag : ℕ) → i < devicesOf s → (j : ℕ) → deviceCountWord ≤ j → j < stateWords → (x : Bool) → eqb j (firstDeviceWord + i * deviceWords + deviceConfiguredPlace) ≡ x → getD (withDevice t i flag) j 0 ≡ getD (withDevice s i flag) j 0
-      both-flagged i flag g j lo hi true z =
-          let q = eqb-true j (firstDeviceWord + i * deviceWords + deviceConfiguredPlace) z in
-          let most : i < mostDevices = omega (arith, device-facts s firstDeviceWord (devicesOf s) old .few) in
-          rw (q, device-word t i flag n most, device-word s i flag size most)
-      both-flagged i flag g j lo hi false z =
-          let q = eqb-false j (firstDeviceWord + i * deviceWords + deviceConfiguredPlace) z in
-          device-frame t i flag j (λ p r. q (omega arith)) ∙ a j lo hi ∙ sym (device-frame s i flag j (λ p r. q (omega arith)))

@@ -20,7 +20,7 @@ use Rattle.model.specs.Replay.{needed, isIdle, isOffered, isOfferedAs, i
 use Rattle.model.proofs.Choice.{on-pick, on-first, both}
 use Rattle.model.proofs.View.{Shape, Moves, stays, then, turns, counted-view, service-moves, channel-moves}
 use Rattle.model.proofs.Words.{Agree, service-frame, channel-frame, number-frame, number-above, number-length}
-use Rattle.model.proofs.Devices.{DeviceTurn, noneAsked, turn-back}
+use Rattle.model.proofs.Above.{AboveTurn, leavesAbove, turn-back}
 use Rattle.model.proofs.Rules.{Given, Base, Removes, Live, live-rules, live-last, service-idle, base-later, removes-later}
 use Rattle.model.proofs.Sounds.{base-service, base-channel, removes-same, sound-same}
 use Rattle.model.proofs.Needs.{ready-needs, closed-needs, version-needs, offered-needs, registered-needs, refused-needs, ended-needs, noted-needs}
@@ -46,7 +46,7 @@ pub record Good (s : List ℕ) (e : Effect) : Type 0 where
   pub turn : Turn s e
   -- what its entry needs is shown
   pub need : neededBy s (e .event)
-  pub devices : DeviceTurn s e
+  pub above : AboveTurn s e
 
 module _ (s : List ℕ) (g : Given s) where
   -- the state itself, for the next number
@@ -72,7 +72,7 @@ module _ (s : List ℕ) (g : Given s) where
     removal = removes-now;
     turn = leaves (same-blocks s s (g .facts .base .few) (λ j lo hi. refl)) (same-removal s s (λ j lo hi. refl)) a;
     need = n;
-    devices = noneAsked (λ j lo hi. refl) d;
+    above = leavesAbove (λ j lo hi. refl) d;
   }
 
   -- One service changed: it is sound by itself, and where it is live no other live service has its handle.
@@ -90,7 +90,7 @@ module _ (s : List ℕ) (g : Given s) where
             removes-same s (withService s k stage handle minor) (lastOf s + 1) (g .facts .base .few) low high removes-now;
         turn = leaves (same-blocks s (withService s k stage handle minor) (g .facts .base .few) low) (same-removal s (withService s k stage handle minor) high) a;
         need = n;
-        devices = noneAsked (λ j lo hi. w j (λ p q. omega arith)) d;
+        above = leavesAbove (λ j lo hi. w j (λ p q. omega arith)) d;
       }
 
   -- A channel closed or made ready, its services idle.
@@ -108,7 +108,7 @@ module _ (s : List ℕ) (g : Given s) where
             removes-same s (withChannel s c ready) (lastOf s + 1) (g .facts .base .few) low high removes-now;
         turn = leaves (same-blocks s (withChannel s c ready) (g .facts .base .few) low) (same-removal s (withChannel s c ready) high) a;
         need = n;
-        devices = noneAsked (λ j lo hi. w j (λ q. omega arith) (λ p q. omega arith)) d;
+        above = leavesAbove (λ j lo hi. w j (λ q. omega arith) (λ p q. omega arith)) d;
       }
 
   -- a service becomes idle
@@ -277,7 +277,7 @@ module _ (s t : List ℕ) (n : OnlyNumbers s t) (g : Given s) where
         (same-removal s t (λ j lo hi. n .below j (omega arith) hi))
         (x .turn);
     need = rw (numbers-moves .view, last-numbers) at (x .need);
-    devices = turn-back s (g .size) (g .facts .devices) t e (n .size ∙ g .size) (n .above) (x .devices);
+    above = turn-back s (g .size) (g .facts .devices) t e (n .size ∙ g .size) (n .above) (x .above);
   }
 
   pub reaches-numbers : (c : ℕ) → Reaches s c → Reaches t c

@@ -1,25 +1,26 @@
 -- Words that say a sound state are accepted.
 -- Assumes nothing.
 use mathlib.Core.Path.{_≡_, refl, ap, _∙_}
-use mathlib.Core.Bool.{Bool, true, false}
+use mathlib.Core.Bool.{Bool, true, false, not}
 use mathlib.Core.List.{List, [], _∷_}
 use Prim.Native.Nat.{ℕ, zero, suc, _+_, _*_, _/_, _<_, _≤_}
 use native.Mathlib.Omega.{arith}
 use lib.ListN.{length, getD, getD-replicate}
 use lib.Seq.{sets, length-sets}
-use lib.Dec.{eqb, ltb}
+use lib.Dec.{eqb, leb, ltb}
 use borrow.Author.Tests.{le-leb, lt-ltb, eq-eqb, ne-eqb, eqb-true, eqb-false}
 use Rattle.model.specs.Choice.{pick, every, _and_, _or_, firstBelow, tabulate}
 use Rattle.model.specs.declared.Found.the-variants.{At}
 use Rattle.model.specs.declared.Removal.{Removal}
-use Rattle.model.specs.Layout.{blockAt, blockIn, blockWords, channelCount, placeCount, serviceCount, firstBlockWord, lastOf, outstandingOf, stageAt, handleAt, minorAt, readyAt, stageIdle, stageRegistered, wordOf, isSet, removalOf, heldOf, withRemoval, firstStageWord, serviceWords, stateWords, blockCountWord, lastWord, heldWord, outstandingWord, mostRecords, firstNumberedWord, deviceCountWord, firstDeviceWord, deviceConfiguredPlace, deviceWords, namePlace, nameBytesIn, deviceIn, devicesOf}
+use Rattle.model.specs.Layout.{blockAt, blockIn, blockWords, channelCount, placeCount, serviceCount, firstBlockWord, lastOf, outstandingOf, stageAt, handleAt, minorAt, readyAt, stageIdle, stageRegistered, wordOf, isSet, removalOf, heldOf, withRemoval, firstStageWord, serviceWords, stateWords, blockCountWord, lastWord, heldWord, outstandingWord, mostRecords, firstNumberedWord, deviceCountWord, firstDeviceWord, deviceConfiguredPlace, deviceWords, namePlace, nameBytesIn, deviceIn, devicesOf, firstPermissionWord, orderShutdown, orderPanic, highestDelay}
 use Rattle.model.specs.Devices.{wordsHolding, deviceKeeps, devicesKeep}
 use Rattle.model.specs.Blocks.{setupState, endOf, endBefore, names, namedBlock}
-use Rattle.model.specs.State.{serviceSound, roomAt, removalRoom, collectedSound, resultSound, resultsSound, sound}
-use Rattle.model.specs.Reading.{Stage, idle, offered, registered}
-use Rattle.model.specs.Encoding.{Told, LiveAs, isOffered, isRegistered, blockTold, CollectedTold, nothing, below, ResultTold, ok, nowork, RemovalTold, SoundTold, SaysService, SaysRemoval, Says, stageTold, handleTold, minorTold, servicesTold, removalTold, lowTold, wordsTold, EncodingHolds}
+use Rattle.model.specs.State.{serviceSound, roomAt, removalRoom, collectedSound, resultSound, resultsSound, ordersSound, sound}
+use Rattle.model.specs.Reading.{Stage, idle, offered, registered, Order, noOrder, shutdown, panic}
+use Rattle.model.proofs.OrderEffects.{order-test}
+use Rattle.model.specs.Encoding.{Told, LiveAs, isOffered, isRegistered, blockTold, CollectedTold, nothing, below, ResultTold, ok, nowork, RemovalTold, SoundTold, SaysService, SaysRemoval, Says, stageTold, handleTold, minorTold, servicesTold, removalTold, SaysOrder, orderTold, delayTold, ordersTold, lowTold, wordsTold, EncodingHolds}
 use Rattle.model.proofs.Choice.{clash, every-make, first-same, first-facts, pick-true, pick-false, tabulate-at, tabulate-length}
-use Rattle.model.proofs.Words.{Arrays, sets-above, sets-at, service-frame, service-length, service-word, counts-frame, counts-length, last-counts, held-counts, removal-frame, removal-above, removal-length, removal-back, head-back}
+use Rattle.model.proofs.Words.{Arrays, sets-below, sets-above, sets-at, service-frame, service-length, service-word, counts-frame, counts-length, last-counts, held-counts, removal-frame, removal-above, removal-length, removal-back, head-back}
 use Rattle.model.proofs.View.{block-same}
 use Rattle.model.proofs.Rules.{sound-test, service-idle, live-last, Live, Apart, Base, Outstanding, RemovalFacts, Removes}
 use Rattle.model.proofs.Devices.{devices-keep, device-facts, flag-few, name-few}
@@ -182,6 +183,30 @@ devices-said s t w f =
         let few = flag-few (t .lists .devices) 0 i e in
         unfold deviceIn in (rw (w .device i h deviceConfiguredPlace (omega arith)) (unfold deviceIn in few))
 
+-- words that say an order
+order-small : (order delay : ℕ) (o : Order) → SaysOrder order delay o → leb order orderPanic ≡ true
+unfolding SaysOrder
+order-small order delay noOrder e = rw e
+order-small order delay (shutdown d) e = rw (e .0)
+order-small order delay panic e = rw e
+
+delay-fits : (order delay : ℕ) (o : Order) → ((d : ℕ) → o ≡ shutdown d → d ≤ highestDelay) → SaysOrder order delay o → (not (eqb order orderShutdown) or leb delay highestDelay) ≡ true
+unfolding SaysOrder _or_
+delay-fits order delay noOrder f e = rw e
+delay-fits order delay (shutdown d) f e = rw (e .0, e .1) (le-leb d highestDelay (f d refl))
+delay-fits order delay panic f e = rw e
+
+-- the words say sound permissions and a sound order
+orders-said : (s : List ℕ) (t : Told) → Says s t → SoundTold t → ordersSound s ≡ true
+orders-said s t w f =
+    order-test s
+    (record {
+      shutdowns = rw (w .shutdowns) (le-leb _ 1 (flag (t .orders .shutdownPermitted)));
+      panics = rw (w .panics) (le-leb _ 1 (flag (t .orders .panicPermitted)));
+      order = order-small _ _ (t .orders .order) (w .order);
+      delay = delay-fits _ _ (t .orders .order) (f .delays) (w .order);
+    })
+
 accepted-said : (s : List ℕ) (t : Told) → Says s t → SoundTold t → sound s ≡ true
 accepted-said s t w f =
     sound-test s
@@ -194,6 +219,7 @@ accepted-said s t w f =
         numbered = rw (w .held, w .last) (f .numbered);
       };
       devices = devices-said s t w f;
+      orders = orders-said s t w f;
     })
 
 -- The words of a state. Those of a service:
@@ -238,25 +264,41 @@ module _ (t : Told) (f : SoundTold t) where
   flags : List ℕ
   flags = tabulate (λ c. wordOf (t .ready c)) channelCount
 
+  -- setup's words with the permissions and the order
+  ordered : List ℕ
+  ordered = sets (setupState (t .lists)) firstPermissionWord (ordersTold (t .orders))
+
+  ordered-length : length ordered ≡ stateWords
+  unfolding ordered
+  ordered-length = length-sets (setupState (t .lists)) firstPermissionWord (ordersTold (t .orders)) ∙ setup-length (t .lists) whole
+
   opened : List ℕ
-  opened = sets (setupState (t .lists)) 0 flags
+  opened = sets ordered 0 flags
 
   opened-length : length opened ≡ stateWords
   unfolding opened
-  opened-length = length-sets (setupState (t .lists)) 0 flags ∙ setup-length (t .lists) whole
+  opened-length = length-sets ordered 0 flags ∙ ordered-length
 
-  opened-above : (j : ℕ) → channelCount ≤ j → getD opened j 0 ≡ getD (setupState (t .lists)) j 0
+  opened-over : (j : ℕ) → channelCount ≤ j → getD opened j 0 ≡ getD ordered j 0
   unfolding opened flags
-  opened-above j h =
-      sets-above (setupState (t .lists)) flags 0 j (omega (arith, tabulate-length (λ (c : ℕ). wordOf (t .ready c)) channelCount))
+  opened-over j h =
+      sets-above ordered flags 0 j (omega (arith, tabulate-length (λ (c : ℕ). wordOf (t .ready c)) channelCount))
+
+  opened-above : (j : ℕ) → channelCount ≤ j → j < firstPermissionWord → getD opened j 0 ≡ getD (setupState (t .lists)) j 0
+  opened-above j h g = opened-over j h ∙ unfold ordered in (sets-below (setupState (t .lists)) (ordersTold (t .orders)) firstPermissionWord j g)
+
+  opened-orders : (i : ℕ) → i < 4 → getD opened (firstPermissionWord + i) 0 ≡ getD (ordersTold (t .orders)) i 0
+  opened-orders i h =
+      opened-over (firstPermissionWord + i) (omega arith)
+      ∙ unfold ordered ordersTold in (sets-at (setupState (t .lists)) (ordersTold (t .orders)) firstPermissionWord i (omega arith) (omega (arith, setup-length (t .lists) whole)))
 
   opened-at : (c : ℕ) → c < channelCount → getD opened c 0 ≡ wordOf (t .ready c)
-  unfolding opened flags
+  unfolding opened ordered flags
   opened-at c h =
-      ap (λ (j : ℕ). getD (sets (setupState (t .lists)) 0 flags) j 0) (omega arith)
-      ∙ sets-at (setupState (t .lists)) flags 0 c
+      ap (λ (j : ℕ). getD (sets ordered 0 flags) j 0) (omega arith)
+      ∙ sets-at ordered flags 0 c
       (omega (arith, tabulate-length (λ (c : ℕ). wordOf (t .ready c)) channelCount))
-      (omega (arith, tabulate-length (λ (c : ℕ). wordOf (t .ready c)) channelCount, setup-length (t .lists) whole))
+      (omega (arith, tabulate-length (λ (c : ℕ). wordOf (t .ready c)) channelCount, ordered-length))
       ∙ tabulate-at (λ (c : ℕ). wordOf (t .ready c)) channelCount c 0 h
 
   served : List ℕ
@@ -267,17 +309,17 @@ module _ (t : Told) (f : SoundTold t) where
   served-length = services-length (t .service) opened placeCount ∙ opened-length
 
   low-length : length (lowTold t) ≡ stateWords
-  unfolding lowTold served opened flags
+  unfolding lowTold served opened ordered flags
   low-length = counts-length served (t .last) (t .held) ∙ served-length
 
   -- all but the services and the counts
   low-frame : (j : ℕ) → (firstStageWord ≤ j → j < blockCountWord → ⊥) → (lastWord ≤ j → j < lastWord + 2 → ⊥) → getD (lowTold t) j 0 ≡ getD opened j 0
-  unfolding lowTold served opened flags
+  unfolding lowTold served opened ordered flags
   low-frame j p q =
       counts-frame served (t .last) (t .held) j q ∙ services-frame (t .service) opened placeCount j (λ a b. p a (omega arith))
 
   low-service : (k i : ℕ) → k < placeCount → i < serviceWords → getD (lowTold t) (firstStageWord + k * serviceWords + i) 0 ≡ getD (stageTold (t .service k) ∷ handleTold (t .service k) ∷ minorTold (t .service k) ∷ []) i 0
-  unfolding lowTold served opened flags
+  unfolding lowTold served opened ordered flags
   low-service k i h b =
       counts-frame served (t .last) (t .held) (firstStageWord + k * serviceWords + i) (λ p q. omega arith)
       ∙ services-word (t .service) opened placeCount (omega arith) opened-length k h i b
@@ -309,13 +351,26 @@ module _ (t : Told) (f : SoundTold t) where
       go false = unfold pick in refl
 
   -- the devices' words are setup's
-  words-given : (j : ℕ) → deviceCountWord ≤ j → getD (wordsTold t) j 0 ≡ getD (setupState (t .lists)) j 0
-  words-given j h = words-high j (omega arith) ∙ low-frame j (λ p q. omega arith) (λ p q. omega arith) ∙ opened-above j (omega arith)
+  words-given : (j : ℕ) → deviceCountWord ≤ j → j < firstPermissionWord → getD (wordsTold t) j 0 ≡ getD (setupState (t .lists)) j 0
+  words-given j h g = words-high j (omega arith) ∙ low-frame j (λ p q. omega arith) (λ p q. omega arith) ∙ opened-above j (omega arith) g
+
+  words-orders : (i : ℕ) → i < 4 → getD (wordsTold t) (firstPermissionWord + i) 0 ≡ getD (ordersTold (t .orders)) i 0
+  words-orders i h =
+      words-high (firstPermissionWord + i) (omega arith)
+      ∙ low-frame (firstPermissionWord + i) (λ p q. omega arith) (λ p q. omega arith)
+      ∙ opened-orders i h
+
+  order-said : (o : Order) (order delay : ℕ) → order ≡ orderTold o → delay ≡ delayTold o → SaysOrder order delay o
+  unfolding SaysOrder orderTold delayTold
+  order-said noOrder order delay p q = p
+  order-said (shutdown d) order delay p q = (p, q)
+  order-said panic order delay p q = p
 
   words-device : (i : ℕ) → i < length (t .lists .devices) / deviceWords → (j : ℕ) → j < namePlace + wordsHolding (nameBytesIn (t .lists .devices) 0 i) → getD (wordsTold t) (firstDeviceWord + i * deviceWords + j) 0 ≡ getD (t .lists .devices) (0 + i * deviceWords + j) 0
   words-device i h j g =
       let short = name-few (t .lists .devices) 0 i (device-facts (t .lists .devices) 0 (length (t .lists .devices) / deviceWords) (whole .devices .keeps) .keeps i h) in
-      words-given (firstDeviceWord + i * deviceWords + j) (omega arith) ∙ setup-device (t .lists) whole i h j (omega arith)
+      let few = whole .devices .few in
+      words-given (firstDeviceWord + i * deviceWords + j) (omega arith) (omega arith) ∙ setup-device (t .lists) whole i h j (omega arith)
 
   words-removal : t .outstanding ≡ true → wordsTold t ≡ withRemoval (lowTold t) (removalTold (t .removal))
   unfolding wordsTold
@@ -338,7 +393,7 @@ module _ (t : Told) (f : SoundTold t) where
   words-outstanding false o =
       rw (pick-false _ _ _ o)
       (low-frame outstandingWord (λ p q. omega arith) (λ p q. omega arith)
-      ∙ opened-above outstandingWord (omega arith)
+      ∙ opened-above outstandingWord (omega arith) (omega arith)
       ∙ setup-high (t .lists) whole outstandingWord (omega arith) (omega arith)
       ∙ getD-replicate {A = ℕ} stateWords outstandingWord 0 0 (omega arith))
 
@@ -360,11 +415,11 @@ module _ (t : Told) (f : SoundTold t) where
       })
 
   last-said : lastOf (lowTold t) ≡ t .last
-  unfolding lowTold served opened flags
+  unfolding lowTold served opened ordered flags
   last-said = last-counts served (t .last) (t .held) served-length
 
   held-said : heldOf (lowTold t) ≡ t .held
-  unfolding lowTold served opened flags
+  unfolding lowTold served opened ordered flags
   held-said = held-counts served (t .last) (t .held) served-length
 
   told-flag : wordOf (removalTold (t .removal) .cancelled) ≡ wordOf (t .removal .cancelled)
@@ -375,18 +430,21 @@ module _ (t : Told) (f : SoundTold t) where
   words-said = record {
     ready = λ c h. words-low c (omega arith) ∙ low-frame c (λ p q. omega arith) (λ p q. omega arith) ∙ opened-at c h;
     service = λ k h. service-words (t .service k) _ _ _ (words-service k 0 _ h (omega arith) (omega arith)) (words-service k 1 _ h (omega arith) (omega arith)) (words-service k 2 _ h (omega arith) (omega arith));
-    count = words-low blockCountWord (omega arith) ∙ low-frame blockCountWord (λ p q. omega arith) (λ p q. omega arith) ∙ opened-above blockCountWord (omega arith) ∙ setup-count (t .lists) whole;
+    count = words-low blockCountWord (omega arith) ∙ low-frame blockCountWord (λ p q. omega arith) (λ p q. omega arith) ∙ opened-above blockCountWord (omega arith) (omega arith) ∙ setup-count (t .lists) whole;
     block = λ i h.
         block-same (setupState (t .lists)) (wordsTold t) i (omega (arith, whole .blocks .few))
-        (λ j lo hi. words-low j (omega arith) ∙ low-frame j (λ p q. omega arith) (λ p q. omega arith) ∙ opened-above j (omega arith))
+        (λ j lo hi. words-low j (omega arith) ∙ low-frame j (λ p q. omega arith) (λ p q. omega arith) ∙ opened-above j (omega arith) (omega arith))
         ∙ setup-block (t .lists) whole i h;
-    devices = words-given deviceCountWord (omega arith) ∙ setup-devices (t .lists) whole;
+    devices = words-given deviceCountWord (omega arith) (omega arith) ∙ setup-devices (t .lists) whole;
     device = words-device;
     last = words-low lastWord (omega arith) ∙ last-said;
     held = words-low heldWord (omega arith) ∙ held-said;
     outstanding = words-outstanding (t .outstanding) refl;
     cancelled = λ o. rw (words-removal o) (head-back (lowTold t) (removalTold (t .removal)) low-length arrays 1 (omega arith) ∙ told-flag);
     removal = removal-said-by;
+    shutdowns = words-orders 0 (omega arith) ∙ unfold ordersTold in refl;
+    panics = words-orders 1 (omega arith) ∙ unfold ordersTold in refl;
+    order = order-said (t .orders .order) _ _ (words-orders 2 (omega arith) ∙ unfold ordersTold in refl) (words-orders 3 (omega arith) ∙ unfold ordersTold in refl);
   }
 
 pub encoding : EncodingHolds

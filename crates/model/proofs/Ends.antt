@@ -23,7 +23,7 @@ use Rattle.model.specs.Journal.{kindBegun, kindCollected, kindRemovalEnd
 use Rattle.model.specs.Memory.{marked, addrIn, sizeIn}
 use Rattle.model.specs.Messages.{Effect}
 use Rattle.model.specs.Work.{addrNow, sizeNow, settled, collecting, working}
-use Rattle.model.specs.Calls.{Action, receive, offer, withdraw, close, work, Call, act, drain, Outcome, accepted, drained, effectOf, inRange, outcome, pagesOf, refusalOf, refused}
+use Rattle.model.specs.Calls.{Action, receive, offer, withdraw, close, work, permit, takeOrder, Call, act, drain, Outcome, accepted, drained, effectOf, inRange, outcome, pagesOf, refusalOf, refused}
 use Rattle.model.specs.Reading.{View, setupView}
 use Rattle.model.specs.Demand3.{Run, Done, after, newRun, runs, entries, noted}
 use Rattle.model.specs.Contracts.{AllMeet, OfEveryList}
@@ -176,6 +176,8 @@ work-down s g o (receive c m) e r n = absurd (clash false refl e)
 work-down s g o (offer c v) e r n = absurd (clash false refl e)
 work-down s g o (withdraw c v) e r n = absurd (clash false refl e)
 work-down s g o (close c) e r n = absurd (clash false refl e)
+work-down s g o (permit v permitted) e r n = absurd (clash false refl e)
+work-down s g o takeOrder e r n = absurd (clash false refl e)
 work-down s g o (work budget) e r n =
     step-down s g o (working s budget .effects) (step-of s g (rw o) budget) (paging s g (rw o) budget (leb-true 1 budget (both _ _ r .0)) .some) n .fewer
 

@@ -8,7 +8,7 @@ use Rattle.entry.specs.Word.{InRange}
 use Rattle.model.specs.Choice.{_and_, _or_}
 use Rattle.model.specs.declared.Event.{Event}
 use Rattle.model.specs.Layout.{channelCount, serviceCount, mostDevices, mostRecords, highestNumber, highestMinor, mostBudget}
-use Rattle.model.specs.Journal.{kinds, unnamedZero, keepsTable, fieldsOf, readyEvent, closedEvent, versionRefusedEvent, offeredEvent, registeredEvent, offerRefusedEvent, serviceEndedEvent, deliveredEvent, dataRefusedEvent, answeredEvent, configuredEvent, begunEvent, cancelledEvent, collectedEvent, settledEvent, removalEndEvent, notedEvent, deviceEvent}
+use Rattle.model.specs.Journal.{kinds, unnamedZero, keepsTable, fieldsOf, readyEvent, closedEvent, versionRefusedEvent, offeredEvent, registeredEvent, offerRefusedEvent, serviceEndedEvent, deliveredEvent, dataRefusedEvent, answeredEvent, configuredEvent, begunEvent, cancelledEvent, collectedEvent, settledEvent, removalEndEvent, notedEvent, deviceEvent, permittedEvent, takenEvent, orderedEvent}
 
 pub record Fits (number : ℕ) (e : Event) : Type 0 where
   pub range : InRange (fieldsOf number e)
@@ -90,3 +90,16 @@ module _ (number c : ℕ) (n : number ≤ highestNumber) (h : c < channelCount) 
   pub device-fits : (result place configured : ℕ) → result < codeEnd → place < mostDevices → Fits number (deviceEvent c result place configured)
   unfolding fieldsOf kinds unnamedZero _and_ _or_
   device-fits result place configured k p = record { range = omega arith; table = refl }
+
+  pub ordered-fits : (v result delay : ℕ) → v < serviceCount → result < codeEnd → Fits number (orderedEvent c v result delay)
+  unfolding fieldsOf kinds unnamedZero _and_ _or_
+  ordered-fits v result delay l k = record { range = omega arith; table = refl }
+
+-- the host's own, which have no channel
+pub permitted-fits : (number v permitted : ℕ) → number ≤ highestNumber → v < serviceCount → permitted ≤ 1 → Fits number (permittedEvent v permitted)
+unfolding fieldsOf kinds unnamedZero _and_ _or_
+permitted-fits number v permitted n l p = record { range = omega arith; table = refl }
+
+pub taken-fits : (number : ℕ) → number ≤ highestNumber → Fits number takenEvent
+unfolding fieldsOf kinds unnamedZero _and_ _or_
+taken-fits number n = record { range = omega arith; table = refl }

@@ -2,6 +2,7 @@ pub mod Choice
 pub mod Loops
 pub mod Words
 pub mod Devices
+pub mod Above
 pub mod View
 pub mod Rules
 pub mod Sounds
@@ -18,6 +19,7 @@ pub mod Configured
 pub mod WorkEffects
 pub mod Steps
 pub mod DeviceEffects
+pub mod OrderEffects
 pub mod ReceiveEffects
 pub mod Calls
 pub mod Lists

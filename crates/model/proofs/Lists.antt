@@ -18,12 +18,12 @@ use Rattle.model.specs.Messages.{Effect}
 use Rattle.model.specs.Calls.{Call, act, drain, Action, Outcome, accepted, drained, effectOf, outcome, pagesOf, refusalOf, refused}
 use Rattle.model.specs.Reading.{View, read, readEntry, reading, viewOf}
 use Rattle.model.specs.Demand3.{Run, Done, after, doing, drainedBy, entries, noEntry, numberedBy, runs}
-use Rattle.model.specs.Contracts.{Meets, answers, works, drains, AllMeet}
+use Rattle.model.specs.Contracts.{Meets, answers, works, takes, drains, AllMeet}
 use Rattle.model.proofs.Words.{counts-length, last-counts, held-counts}
 use Rattle.model.proofs.View.{shape-moves, counts-view}
 use Rattle.model.proofs.Rules.{sound-facts}
 use Rattle.model.proofs.Sounds.{sound-counted}
-use Rattle.model.proofs.Devices.{turn-keeps}
+use Rattle.model.proofs.Above.{turn-keeps, turn-orders}
 use Rattle.model.proofs.Ring.{fields-back, stored-same, stored-run, entries-snoc, entries-split, length-entries, entries-in, reading-append}
 use Rattle.model.proofs.Effects.{shape}
 use Rattle.model.proofs.Calls.{Taken, taken, on-act, on-drain}
@@ -116,7 +116,8 @@ kept-grown b u e out k t =
       size = counts-length (e .state) _ _ ∙ w .size;
       sounds =
           sound-counted (e .state) (lastOf (u .state) + 1) (heldOf (u .state) + 1) (w .size) (g .base) (g .removal)
-          (turn-keeps (u .state) (t .given .size) (t .given .facts .devices) e (g .devices))
+          (turn-keeps (u .state) (t .given .size) (t .given .facts .devices) e (g .above))
+          (turn-orders (u .state) (t .given .size) (t .given .facts .devices) e (t .given .facts .orders) (g .above))
           (omega (arith, t .given .number)) (omega (arith, t .room)) (omega (arith, c .numbered));
       last = l ∙ ap (λ (n : ℕ). n + 1) (k .last);
       held = rw h (omega (arith, k .held));
@@ -154,7 +155,7 @@ kept-shifted b u n h k =
     record {
       size = counts-length (u .state) _ _ ∙ k .size;
       sounds =
-          sound-counted (u .state) (lastOf (u .state)) (heldOf (u .state) - n) (k .size) (f .base) (f .removal) (f .devices)
+          sound-counted (u .state) (lastOf (u .state)) (heldOf (u .state) - n) (k .size) (f .base) (f .removal) (f .devices) (f .orders)
           (c .lasts) (omega (arith, c .helds)) (omega (arith, c .numbered));
       last = last-counts (u .state) _ _ (k .size) ∙ k .last;
       held = rw m (simp (length-append, length-entries) (omega (arith, k .held)));
@@ -216,6 +217,7 @@ kept-doing b u call k =
 pub meets-outcome : {s j : List ℕ} {call : Call} {r : Outcome} → Meets s j call r → r ≡ outcome s j call
 meets-outcome (answers e) = e
 meets-outcome (works e) = e
+meets-outcome (takes e) = e .0
 meets-outcome (drains e) = e
 
 pub meets-doing : (u : Run) (d : Done) → Meets (u .state) (u .journal) (d .call) (d .gave) → after u d ≡ after u (doing u (d .call))

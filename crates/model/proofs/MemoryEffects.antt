@@ -23,7 +23,7 @@ use Rattle.model.specs.Memory.{argumentOf, addrIn, sizeIn, hasRecords, r
 use Rattle.model.specs.Reading.{View, removing, read, seeBlocks, configuredIn, markedRemoval, blocksShown, removalShown, viewOf, seeRemoval}
 use Rattle.model.proofs.Choice.{on-pick, both, tabulate-at, tabulate-length}
 use Rattle.model.proofs.Words.{Agree, Arrays, loaded-arrays, configured-frame, removal-above}
-use Rattle.model.proofs.Devices.{noneAsked}
+use Rattle.model.proofs.Above.{leavesAbove}
 use Rattle.model.proofs.View.{Moves, shape-moves, stays, then, turns, configured-moves, removal-moves}
 use Rattle.model.proofs.Rules.{Base, Ours, RemovalFacts}
 use Rattle.model.proofs.Events.{Fits, codeEnd, answered-fits, configured-fits, begun-fits, cancelled-fits}
@@ -152,7 +152,7 @@ module _ (s : List ℕ) (g : Given s) where
     removal = removes-none (p .state) (lastOf s + 1) (r .removal ∙ o);
     turn = configures (r .sizes) o (r .removal ∙ o) a;
     need = n;
-    devices = noneAsked (r .above) d;
+    above = leavesAbove (r .above) d;
   }
 
   -- 10 and 11, of a CONFIGURE
@@ -181,7 +181,7 @@ module _ (s : List ℕ) (g : Given s) where
     removal = removes-made s (lastOf s + 1) m (g .size) (g .facts .base .few) a facts;
     turn = turn (removal-blocks s m (g .facts .base .few)) (new-removal s m (g .size) a);
     need = n;
-    devices = noneAsked (λ j lo hi. removal-above s m (g .size) a j (omega arith)) d;
+    above = leavesAbove (λ j lo hi. removal-above s m (g .size) a j (omega arith)) d;
   }
 
   -- 12

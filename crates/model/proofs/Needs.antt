@@ -7,7 +7,7 @@ use lib.ListN.{length}
 use borrow.Author.Tests.{lt-ltb}
 use Rattle.model.specs.Choice.{pick, _and_, _or_}
 use Rattle.model.specs.Layout.{memoryService}
-use Rattle.model.specs.Journal.{fieldsOf, readyEvent, closedEvent, versionRefusedEvent, offeredEvent, registeredEvent, offerRefusedEvent, serviceEndedEvent, deliveredEvent, dataRefusedEvent, answeredEvent, configuredEvent, begunEvent, cancelledEvent, collectedEvent, settledEvent, removalEndEvent, notedEvent, deviceEvent}
+use Rattle.model.specs.Journal.{fieldsOf, readyEvent, closedEvent, versionRefusedEvent, offeredEvent, registeredEvent, offerRefusedEvent, serviceEndedEvent, deliveredEvent, dataRefusedEvent, answeredEvent, configuredEvent, begunEvent, cancelledEvent, collectedEvent, settledEvent, removalEndEvent, notedEvent, deviceEvent, permittedEvent, takenEvent, orderedEvent}
 use Rattle.model.specs.Reading.{View}
 use Rattle.model.specs.Demand3.{showsRegistered}
 use Rattle.model.specs.Replay.{showsReady, showsStage, isIdle, isOfferedAs, isOffered, isLive, isRegistered, isRemoving, channelNeed, serviceNeed, handleNeed, removalNeed, settles, blockNeed, needed}
@@ -85,3 +85,15 @@ module _ (number : ℕ) (x : View) (c : ℕ) where
   pub device-needs : (result place configured : ℕ) → needed (fieldsOf number (deviceEvent c result place configured)) configured x ≡ true
   unfolding fieldsOf needed channelNeed serviceNeed handleNeed removalNeed blockNeed pick _and_ _or_
   device-needs result place configured = refl
+
+  pub ordered-needs : (v result delay : ℕ) → needed (fieldsOf number (orderedEvent c v result delay)) delay x ≡ true
+  unfolding fieldsOf needed channelNeed serviceNeed handleNeed removalNeed blockNeed pick _and_ _or_
+  ordered-needs v result delay = refl
+
+  pub permitted-needs : (v permitted : ℕ) → needed (fieldsOf number (permittedEvent v permitted)) 0 x ≡ true
+  unfolding fieldsOf needed channelNeed serviceNeed handleNeed removalNeed blockNeed pick _and_ _or_
+  permitted-needs v permitted = refl
+
+  pub taken-needs : needed (fieldsOf number takenEvent) 0 x ≡ true
+  unfolding fieldsOf needed channelNeed serviceNeed handleNeed removalNeed blockNeed pick _and_ _or_
+  taken-needs = refl

@@ -16,7 +16,7 @@ use Rattle.model.specs.Calls.{dataFor, heard, hears, receiving, routed}
 use Rattle.model.specs.Choice.{pick, _or_}
 use Rattle.model.specs.declared.Found.the-variants.{Nowhere}
 use Rattle.model.specs.declared.Route.{Route}
-use Rattle.model.specs.declared.Route.the-variants.{Memory, Devices, Host}
+use Rattle.model.specs.declared.Route.the-variants.{Memory, Devices, Orders, Host}
 use Rattle.model.proofs.Choice.{on-pick, on-first, first-nowhere, both}
 use Rattle.model.proofs.Rules.{Ours, live-rules}
 use Rattle.model.proofs.Events.{delivered-fits, data-refused-fits}
@@ -26,6 +26,7 @@ use Rattle.model.proofs.Effects.{Good, next-number, base-now, unchanged
 use Rattle.model.proofs.Turns.{aside}
 use Rattle.model.proofs.MemoryEffects.{memory-good}
 use Rattle.model.proofs.DeviceEffects.{devices-good}
+use Rattle.model.proofs.OrderEffects.{answered-order-good}
 use Rattle.model.specs.Journal.{deliveredEvent, fieldsOf, dataRefusedEvent}
 use Rattle.model.specs.Reading.{read, viewOf}
 use Rattle.model.specs.Replay.{showsReady, showsStage, isRegistered}
@@ -64,13 +65,15 @@ versions m =
 abbrev Routed : ℕ → Route → Type 0
 Routed v Memory = v ≡ memoryService
 Routed v Devices = v ≡ deviceService
+Routed v Orders = Unit {0}
 Routed v Host = Unit {0}
 
 route-of : (v : ℕ) → Routed v (route v)
 unfolding route
 route-of v =
     on-pick (Routed v) _ _ _ (λ e. eqb-true v memoryService e)
-    (λ _. on-pick (Routed v) _ _ _ (λ e. eqb-true v deviceService e) (λ _. tt))
+    (λ _. on-pick (Routed v) _ _ _ (λ e. eqb-true v deviceService e)
+    (λ _. on-pick (Routed v) _ _ _ (λ _. tt) (λ _. tt)))
 
 module _ (s : List ℕ) (g : Given s) where
   delivered-good : (c v : ℕ) → c < channelCount → v < serviceCount → showsReady (viewOf s) c ≡ true → isRegistered (showsStage (viewOf s) c v) ≡ true → Good s (effect (deliveredEvent c v) s [])
@@ -88,6 +91,7 @@ module _ (s : List ℕ) (g : Given s) where
   unfolding routed
   routed-good c handle payload v Memory q h l r n o = memory-good s g c handle payload (record { below = h; ready = r; shown = rw (sym q) n }) o
   routed-good c handle payload v Devices q h l r n o = devices-good s g c (record { below = h; ready = r; shown = rw (sym q) n }) handle payload
+  routed-good c handle payload v Orders q h l r n o = answered-order-good s g c handle v payload h l
   routed-good c handle payload v Host q h l r n o = delivered-good c v h l r n
 
   data-good : (c handle : ℕ) (payload : List ℕ) → c < channelCount → readyAt s c ≡ 1 → Good s (dataFor s c handle payload (registeredFor s c handle))

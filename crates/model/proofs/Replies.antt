@@ -15,6 +15,7 @@ use Rattle.model.specs.declared.Removal.{Removal}
 use Rattle.model.specs.Messages.{DS-DATA, services, serviceOf, dsMessage, initAck, initNack, regReq, regNack, unreg, unregAck, unregNack, dsData, nack}
 use Rattle.model.specs.Memory.{memoryReply, resultRecord, queryRecord, permanentRange, statusRecord}
 use Rattle.model.specs.DeviceRequests.{deviceReply}
+use Rattle.model.specs.Orders.{orderReply}
 use Rattle.model.proofs.Choice.{on-pick, joined-length}
 use Rattle.model.specs.Layout.{dsHeaderBytes, mostRecords, outputBytes, queryBytes, replyHeaderBytes, resultBytes, statusBytes}
 
@@ -62,6 +63,10 @@ unregNack-short handle = simp (message-length, length-bytes) (omega arith)
 pub device-short : (handle request result status : ℕ) → length (deviceReply handle request result status) ≤ outputBytes
 unfolding deviceReply dsData
 device-short handle request result status = simp (message-length, length-append, length-bytes) (omega arith)
+
+pub order-short : (handle request result : ℕ) (reason : List ℕ) → length reason ≤ 8 → length (orderReply handle request result reason) ≤ outputBytes
+unfolding orderReply dsData
+order-short handle request result reason h = simp (message-length, length-append, length-bytes) (omega arith)
 
 pub nack-short : (handle result : ℕ) → length (nack handle result) ≤ outputBytes
 unfolding nack

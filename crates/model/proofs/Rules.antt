@@ -13,7 +13,7 @@ use Rattle.model.specs.declared.Removal.{Removal}
 use Rattle.model.specs.Layout.{readyAt, stageAt, handleAt, minorAt, blocksOf, Block, blockAt, lastOf, heldOf, outstandingOf, cancelledOf, isSet, removalOf, channelCount, firstBlockWord, highestMinor, highestNumber, mostBlocks, mostHeld, mostRecords, placeCount, serviceCount, stageIdle, stageOffered, stageRegistered, stateWords, firstDeviceWord, devicesOf}
 use Rattle.model.specs.Devices.{devicesKeep}
 use Rattle.model.specs.Blocks.{endOf, blockKeeps, endBefore, blocksKeep, highestEnd, mostPages, pageSize}
-use Rattle.model.specs.State.{serviceSound, serviceSoundAt, handleApart, removalRoom, collectedSound, resultsSound, removalSound, outstandingSound, sound, isOurs, ourHandle}
+use Rattle.model.specs.State.{serviceSound, serviceSoundAt, handleApart, removalRoom, collectedSound, resultsSound, removalSound, outstandingSound, ordersSound, sound, isOurs, ourHandle}
 use Rattle.model.proofs.Choice.{clash, both, join, every-at, every-make}
 
 -- The handles that are ours.
@@ -176,6 +176,7 @@ pub record Sound (s : List ℕ) : Type 0 where
   pub removal : Removes s (lastOf s)
   pub counts : Counts s
   pub devices : devicesKeep s firstDeviceWord (devicesOf s) ≡ true
+  pub orders : ordersSound s ≡ true
 
 -- what is known of the state that an accepted call is given
 pub record Given (s : List ℕ) : Type 0 where
@@ -285,6 +286,7 @@ module _ (s : List ℕ) where
       let t6 = both _ _ (t5 .1) in
       let t7 = both _ _ (t6 .1) in
       let t8 = both _ _ (t7 .1) in
+      let t9 = both _ _ (t8 .1) in
       record {
         base = record {
           few = leb-true _ mostBlocks (b1 .0);
@@ -299,7 +301,8 @@ module _ (s : List ℕ) where
           helds = leb-true _ _ (t6 .0);
           numbered = leb-true _ _ (t7 .0);
         };
-        devices = t8 .1;
+        devices = t9 .0;
+        orders = t9 .1;
       }
 
   pub sound-test : Sound s → sound s ≡ true
@@ -313,7 +316,7 @@ module _ (s : List ℕ) where
       (join _ _ (apart-test (b .apart))
       (join _ _ (le-leb _ _ (f .counts .lasts))
       (join _ _ (le-leb _ _ (f .counts .helds))
-      (join _ _ (le-leb _ _ (f .counts .numbered)) (join _ _ (removes-test (f .removal)) (f .devices))))))))
+      (join _ _ (le-leb _ _ (f .counts .numbered)) (join _ _ (removes-test (f .removal)) (join _ _ (f .devices) (f .orders)))))))))
 
 -- a later last number
 pub base-later : {s : List ℕ} {last : ℕ} (last′ : ℕ) → last ≤ last′ → Base s last → Base s last′

@@ -8,15 +8,16 @@ use mathlib.Core.List.{List}
 use lib.ListN.{length, getD, set, replicate, length-set, getD-replicate}
 use lib.Seq.{getD-set-same, getD-set-other, length-sets}
 use borrow.Author.Tests.{leb-true, eqb-true}
-use Rattle.model.specs.Choice.{pick, every, tabulate, _and_}
-use Rattle.model.specs.Layout.{outstandingOf, blocksOf, blockIn, blockAt, lastOf, heldOf, blockCountWord, blockWords, configuredPlace, firstBlockWord, firstPlace, firstStageWord, heldWord, lastWord, mostBlocks, outstandingWord, pagesPlace, permanentPlace, serviceWords, stateWords, noBlock, deviceWords, mostDevices, deviceConfiguredPlace, deviceCountWord, firstDeviceWord, noDevice, deviceIn, deviceAt, devicesOf}
+use Rattle.model.specs.Choice.{pick, every, tabulate, _and_, _or_}
+use Rattle.model.specs.Layout.{outstandingOf, blocksOf, blockIn, blockAt, lastOf, heldOf, blockCountWord, blockWords, configuredPlace, firstBlockWord, firstPlace, firstStageWord, heldWord, lastWord, mostBlocks, outstandingWord, pagesPlace, permanentPlace, serviceWords, stateWords, noBlock, deviceWords, mostDevices, deviceConfiguredPlace, deviceCountWord, firstDeviceWord, firstPermissionWord, noDevice, deviceIn, deviceAt, devicesOf}
 use Rattle.model.specs.Devices.{acceptedDevices, devicesKeep}
 use Rattle.model.specs.Blocks.{blockKeeps, endBefore, blocksKeep, withList, setupState, Lists, acceptedBlocks, acceptedLists, noLists, names, namedIn, namedBlock}
-use Rattle.model.specs.State.{sound}
-use Rattle.model.specs.Reading.{stageOf, channelsOf, servicesOf, blocksShown, removalShown, viewOf, setupView, devicesShown, setupDevices}
+use Rattle.model.specs.State.{ordersSound, sound}
+use Rattle.model.specs.Reading.{stageOf, channelsOf, servicesOf, blocksShown, removalShown, viewOf, setupView, devicesShown, setupDevices, orderShown, ordersShown, setupOrders}
 use Rattle.model.proofs.Choice.{both, every-at, tabulate-same, first-same}
 use Rattle.model.proofs.Words.{sets-below, sets-above, sets-at, removal-same}
 use Rattle.model.proofs.View.{channels-same, services-same}
+use Rattle.model.proofs.Above.{orders-kept, orders-shown-same}
 use Rattle.model.proofs.Devices.{SameWords, device-facts, name-few, flag-few, devices-keep, device-same}
 use Rattle.model.proofs.Rules.{sound-test, service-idle}
 use Rattle.model.proofs.Sounds.{removes-none}
@@ -161,6 +162,19 @@ module _ (l : Lists) (w : WholeLists l) where
       (λ i h. rw (device-flag i h) (flag-few (l .devices) 0 i (device-facts (l .devices) 0 (length (l .devices) / deviceWords) (w .devices .keeps) .keeps i h)))
       (w .devices .keeps))
 
+  -- and after them all is 0
+  end : (j : ℕ) → firstPermissionWord ≤ j → j < stateWords → getD (setupState l) j 0 ≡ getD (replicate stateWords 0) j 0
+  unfolding setupState listed zeros
+  end j h g =
+      list-above listed deviceCountWord deviceWords (l .devices) j (omega (arith, w .devices .whole, w .devices .few))
+      ∙ list-above zeros blockCountWord blockWords (l .blocks) j (omega (arith, f .whole, f .few))
+
+  setup-orders : ordersSound (setupState l) ≡ true
+  setup-orders = orders-kept (replicate stateWords 0) (setupState l) end (unfold ordersSound _and_ _or_ in refl)
+
+  setup-ordered : ordersShown (setupState l) ≡ setupOrders
+  setup-ordered = orders-shown-same (replicate stateWords 0) (setupState l) end ∙ unfold ordersShown orderShown pick in refl
+
   setup-shown : devicesShown (setupState l) ≡ setupDevices l
   unfolding devicesShown setupDevices
   setup-shown =
@@ -230,6 +244,7 @@ module _ (l : Lists) (w : WholeLists l) where
           numbered = rw (high heldWord (omega arith) (omega arith)) (omega arith);
         };
         devices = setup-devices;
+        orders = setup-orders;
       })
 
 -- what holds of an accepted list's state
@@ -240,6 +255,7 @@ pub record Starts (l : Lists) : Type 0 where
   pub held : heldOf (setupState l) ≡ 0
   pub view : viewOf (setupState l) ≡ setupView l
   pub devices : devicesShown (setupState l) ≡ setupDevices l
+  pub orders : ordersShown (setupState l) ≡ setupOrders
   pub outstanding : outstandingOf (setupState l) ≡ 0
   pub counted : blocksOf (setupState l) ≡ length (l .blocks) / blockWords
   pub given : (i : ℕ) → i < length (l .blocks) / blockWords → blockAt (setupState l) i ≡ blockIn (l .blocks) 0 i
@@ -255,6 +271,7 @@ starts l e =
       held = high l f heldWord (omega arith) (omega arith);
       view = setup-view l f;
       devices = setup-shown l f;
+      orders = setup-ordered l f;
       outstanding = high l f outstandingWord (omega arith) (omega arith);
       counted = count l f;
       given = block l f;

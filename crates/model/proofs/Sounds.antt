@@ -13,8 +13,9 @@ use Rattle.model.specs.declared.Removal.{Removal}
 use Rattle.model.specs.Layout.{readyAt, stageAt, handleAt, minorAt, blocksOf, Block, blockAt, outstandingOf, wordOf, removalOf, withChannel, withService, withConfigured, withCounts, withRemoval, withoutRemoval, blockCountWord, cancelledWord, channelCount, channelWords, firstBlockWord, firstHandleWord, firstMinorWord, firstStageWord, highestNumber, lastWord, mostBlocks, mostHeld, outstandingWord, placeCount, serviceCount, serviceWords, stateWords, stageIdle, firstNumberedWord, lastOf, heldOf, heldWord, withNumber, deviceCountWord, devicesOf, firstDeviceWord}
 use Rattle.model.specs.Devices.{devicesKeep}
 use Rattle.model.proofs.Devices.{devices-same}
+use Rattle.model.proofs.Above.{orders-kept}
 use Rattle.model.specs.Blocks.{endOf, blockKeeps, endBefore, names, namedBlock}
-use Rattle.model.specs.State.{serviceSound, roomOf, removalRoom, sound, roomAt}
+use Rattle.model.specs.State.{serviceSound, roomOf, removalRoom, ordersSound, sound, roomAt}
 use Rattle.model.specs.Reading.{flagged}
 use Rattle.model.proofs.Choice.{clash, first-same, first-facts}
 use Rattle.model.specs.declared.Found.{Found}
@@ -336,8 +337,8 @@ pub removes-none : (s : List ℕ) (last : ℕ) → outstandingOf s ≡ 0 → Rem
 removes-none s last e o = absurd (clash _ (not-true _ o) (eq-eqb _ 0 e))
 
 -- An entry counted.
-pub sound-counted : (s : List ℕ) (last held : ℕ) → length s ≡ stateWords → Base s last → Removes s last → devicesKeep s firstDeviceWord (devicesOf s) ≡ true → last ≤ highestNumber → held ≤ mostHeld → held ≤ last → sound (withCounts s last held) ≡ true
-sound-counted s last held n b r d p q l =
+pub sound-counted : (s : List ℕ) (last held : ℕ) → length s ≡ stateWords → Base s last → Removes s last → devicesKeep s firstDeviceWord (devicesOf s) ≡ true → ordersSound s ≡ true → last ≤ highestNumber → held ≤ mostHeld → held ≤ last → sound (withCounts s last held) ≡ true
+sound-counted s last held n b r d o p q l =
     let t : List ℕ = withCounts s last held in
     let e = counts-frame s last held in
     let x = last-counts s last held n in
@@ -348,6 +349,7 @@ sound-counted s last held n b r d p q l =
       removal = rw x (removes-same s (withCounts s last held) last (b .few) (λ j lo hi. e j (λ p q. omega arith)) (λ j lo hi. e j (λ p q. omega arith)) r);
       counts = record { lasts = rw x p; helds = rw y q; numbered = rw (x, y) l };
       devices = devices-same s (withCounts s last held) (λ j lo hi. e j (λ p q. omega arith)) d;
+      orders = orders-kept s (withCounts s last held) (λ j lo hi. e j (λ p q. omega arith)) o;
     })
   where
     base-make′ : ((j : ℕ) → (lastWord ≤ j → j < outstandingWord → ⊥) → getD (withCounts s last held) j 0 ≡ getD s j 0) → Base (withCounts s last held) last
@@ -362,7 +364,8 @@ sound-same s t a b f =
       base = rw last (base-same s t (lastOf s) (λ j lo hi. a j lo (omega arith)) (f .base));
       removal = rw last (removes-same s t (lastOf s) (f .base .few) (λ j lo hi. a j (omega arith) (omega arith)) (λ j lo hi. a j (omega arith) hi) (f .removal));
       counts = record { lasts = rw last (f .counts .lasts); helds = rw held (f .counts .helds); numbered = rw (last, held) (f .counts .numbered) };
-      devices = devices-same s t b (f .devices);
+      devices = devices-same s t (λ j lo hi. b j lo (omega arith)) (f .devices);
+      orders = orders-kept s t (λ j lo hi. b j (omega arith) hi) (f .orders);
     }
 
 pub sound-numbers : (s : List ℕ) (c numbered highest : ℕ) → c < channelCount → sound s ≡ true → sound (withNumber s c numbered highest) ≡ true

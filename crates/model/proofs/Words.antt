@@ -11,7 +11,7 @@ use lib.Dec.{ltb}
 use borrow.Author.Tests.{ltb-true, ltb-false}
 use Rattle.model.specs.Choice.{tabulate}
 use Rattle.model.specs.declared.Removal.{Removal}
-use Rattle.model.specs.Layout.{isSet, wordOf, removalOf, removalHead, withChannel, withService, withConfigured, withCounts, withRemoval, withoutRemoval, outstandingOf, cancelledOf, blockWords, cancelledWord, channelCount, channelWords, collectedWord, configuredPlace, countWord, firstAddressWord, firstBlockWord, firstResultWord, firstSizeWord, firstStageWord, heldWord, lastWord, mostRecords, outstandingWord, placeCount, positionWord, removalChannelWord, removalHandleWord, removalWords, requestWord, serviceWords, stateWords, headWords, firstNumberedWord, numberWords, withNumber, mostBlocks, deviceConfiguredPlace, deviceCountWord, deviceWords, firstDeviceWord, mostDevices, withDevice}
+use Rattle.model.specs.Layout.{isSet, wordOf, removalOf, removalHead, withChannel, withService, withConfigured, withCounts, withRemoval, withoutRemoval, outstandingOf, cancelledOf, blockWords, cancelledWord, channelCount, channelWords, collectedWord, configuredPlace, countWord, firstAddressWord, firstBlockWord, firstResultWord, firstSizeWord, firstStageWord, heldWord, lastWord, mostRecords, outstandingWord, placeCount, positionWord, removalChannelWord, removalHandleWord, removalWords, requestWord, serviceWords, stateWords, headWords, firstNumberedWord, numberWords, withNumber, mostBlocks, deviceConfiguredPlace, deviceCountWord, deviceWords, firstDeviceWord, mostDevices, withDevice, serviceCount, shutdownService, firstPermissionWord, orderWord, permissionAt, orderOf, delayOf, withPermission, withOrder}
 use Rattle.model.proofs.Choice.{tabulate-at, tabulate-length, tabulate-same}
 
 -- A run of stores: before it, after it, outside it, inside it.
@@ -353,3 +353,33 @@ device-length s i flag = length-set s (firstDeviceWord + i * deviceWords + devic
 pub device-word : (s : List ℕ) (i flag : ℕ) → length s ≡ stateWords → i < mostDevices → getD (withDevice s i flag) (firstDeviceWord + i * deviceWords + deviceConfiguredPlace) 0 ≡ flag
 unfolding withDevice
 device-word s i flag n h = getD-set-same s (firstDeviceWord + i * deviceWords + deviceConfiguredPlace) flag 0 (omega arith)
+
+-- a permission, and the order
+pub permission-frame : (s : List ℕ) (v permitted j : ℕ) → (j ≡ firstPermissionWord + (v - shutdownService) → ⊥) → getD (withPermission s v permitted) j 0 ≡ getD s j 0
+unfolding withPermission
+permission-frame s v permitted j n = getD-set-other s (firstPermissionWord + (v - shutdownService)) j permitted 0 n
+
+pub permission-length : (s : List ℕ) (v permitted : ℕ) → length (withPermission s v permitted) ≡ length s
+unfolding withPermission
+permission-length s v permitted = length-set s (firstPermissionWord + (v - shutdownService)) permitted
+
+pub permission-word : (s : List ℕ) (v permitted : ℕ) → length s ≡ stateWords → v < serviceCount → permissionAt (withPermission s v permitted) v ≡ permitted
+unfolding withPermission
+permission-word s v permitted n h = getD-set-same s (firstPermissionWord + (v - shutdownService)) permitted 0 (omega arith)
+
+pub order-frame : (s : List ℕ) (order delay : ℕ) → Frame s (withOrder s order delay) orderWord 2
+unfolding withOrder
+order-frame s order delay j n = sets-else s (order ∷ delay ∷ []) orderWord j n
+
+pub order-length : (s : List ℕ) (order delay : ℕ) → length (withOrder s order delay) ≡ length s
+unfolding withOrder
+order-length s order delay = length-sets s orderWord (order ∷ delay ∷ [])
+
+module _ (s : List ℕ) (order delay : ℕ) (n : length s ≡ stateWords) where
+  pub order-word : orderOf (withOrder s order delay) ≡ order
+  unfolding withOrder
+  order-word = sets-at s (order ∷ delay ∷ []) orderWord 0 (omega arith) (omega arith)
+
+  pub delay-word : delayOf (withOrder s order delay) ≡ delay
+  unfolding withOrder
+  delay-word = sets-at s (order ∷ delay ∷ []) orderWord 1 (omega arith) (omega arith)

@@ -21,7 +21,7 @@ use Rattle.model.specs.Work.{addrNow, sizeNow, blockNow, endCode, lateRe
 use Rattle.model.specs.Reading.{read, seeBlocks, seeRemoval, flagged, unconfiguredIn, steppedRemoval, addedPages, blocksShown, viewOf}
 use Rattle.model.proofs.Choice.{on-pick, join, or-false, every-at, every-make}
 use Rattle.model.proofs.Words.{Arrays, loaded-arrays, configured-frame, removal-above, without-above, without-outstanding}
-use Rattle.model.proofs.Devices.{noneAsked}
+use Rattle.model.proofs.Above.{leavesAbove}
 use Rattle.model.proofs.View.{shape-moves, then, turns, configured-moves, removal-moves, without-moves}
 use Rattle.model.proofs.Rules.{RemovalFacts, block-rules}
 use Rattle.model.proofs.Turns.{Turn, steps, same-blocks, same-removal}
@@ -208,8 +208,8 @@ module _ (s : List ℕ) (g : Given s) (o : isSet (outstandingOf s) ≡ true) whe
             (settled-facts (withConfigured s k 0) DR-MEM-RES-OK h ok-result);
         turn = turn;
         need = settled-needs _ _ _ _ _ n k (removing-shown s g o) (settles-here k n kb most);
-        devices =
-            noneAsked
+        above =
+            leavesAbove
             (λ j lo hi. removal-above (withConfigured s k 0) (settled (removalOf s) DR-MEM-RES-OK) (w′ .size) (settled-arrays DR-MEM-RES-OK) j (omega arith) ∙ configured-frame s k 0 j (λ p q. omega arith))
             refl;
       }
@@ -235,7 +235,7 @@ module _ (s : List ℕ) (g : Given s) (o : isSet (outstandingOf s) ≡ true) whe
     removal = removes-none (withoutRemoval s) (lastOf s + 1) (without-outstanding s (g .size));
     turn = turn;
     need = end-needs _ _ _ _ replied _ (removing-shown s g o);
-    devices = noneAsked (λ j lo hi. without-above s j (omega arith)) refl;
+    above = leavesAbove (λ j lo hi. without-above s j (omega arith)) refl;
   }
 
   ending-good : Turn s (ending s (removalOf s)) → Good s (ending s (removalOf s))

@@ -67,7 +67,7 @@ noLists = record { blocks = []; devices = [] }
 unfoldable pub acceptedLists : Lists → Bool
 acceptedLists l = acceptedBlocks (l .blocks) and acceptedDevices (l .devices)
 
--- "Setup leaves all channels closed, nothing outstanding, the journal empty." A list stands in the state with its count before it.
+-- "Setup leaves all channels closed, nothing outstanding, the journal empty"; 02, ticket 6: "denied until set". A list stands in the state with its count before it.
 unfoldable pub withList : List ℕ → ℕ → ℕ → List ℕ → List ℕ
 withList s at words l = sets (set s at (length l / words)) (at + 1) l
 

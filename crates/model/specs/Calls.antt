@@ -12,9 +12,10 @@ use Rattle.model.specs.declared.Found.the-variants.{At, Nowhere}
 use Rattle.model.specs.declared.Message.{Message}
 use Rattle.model.specs.declared.Message.the-variants.{InitReq, RegReq, RegAck, RegNack, Unreg, UnregAck, UnregNack, Data, Nack, Bad}
 use Rattle.model.specs.declared.Route.{Route}
-use Rattle.model.specs.declared.Route.the-variants.{Memory, Devices, Host}
+use Rattle.model.specs.declared.Route.the-variants.{Memory, Devices, Orders, Host}
 use Rattle.model.specs.declared.Started.{Started}
-use Rattle.model.specs.Layout.{channelCount, serviceCount, mostBudget, entryWords, dataHeaderBytes, stageIdle, readyAt, placeOf, stageAt, lastOf, heldOf, outstandingOf, isSet, withCounts}
+use Rattle.model.specs.declared.TakenOrder.{TakenOrder}
+use Rattle.model.specs.Layout.{channelCount, serviceCount, mostBudget, entryWords, dataHeaderBytes, stageIdle, readyAt, placeOf, stageAt, lastOf, heldOf, outstandingOf, isSet, withCounts, shutdownService, panicService, orderNone, orderShutdown, orderOf, delayOf}
 use Rattle.model.specs.Blocks.{Lists, noLists, acceptedLists, setupState}
 use Rattle.model.specs.State.{sound}
 use Rattle.model.specs.Refusals.{actionRefusal, drainRefusal}
@@ -23,14 +24,18 @@ use Rattle.model.specs.Messages.{DS-REG-REQ, DS-UNREG-ACK, DS-UNREG-NACK
 use Rattle.model.specs.Memory.{answeredMemory}
 use Rattle.model.specs.Work.{working}
 use Rattle.model.specs.DeviceRequests.{answeredDevice}
+use Rattle.model.specs.Orders.{answeredOrder, permitting, taking}
 
--- The calls that add an entry, with their own arguments: channel and message; channel and service; channel; budget.
+-- The calls that add an entry, with their own arguments: channel and message; channel and service; channel; budget; of 02's ticket 6, a service and whether it
+-- is permitted; nothing.
 pub data Action : Type 0 where
   receive : ℕ → List ℕ → Action
   offer : ℕ → ℕ → Action
   withdraw : ℕ → ℕ → Action
   close : ℕ → Action
   work : ℕ → Action
+  permit : ℕ → Bool → Action
+  takeOrder : Action
 
 -- The calls of demand 3's list: an action with the output that it is lent, or a drain with its run.
 pub data Call : Type 0 where
@@ -66,6 +71,7 @@ accepted s j out pages e = record {
 unfoldable pub routed : List ℕ → ℕ → ℕ → List ℕ → ℕ → Route → Effect
 routed s c handle payload v Memory = answeredMemory s c handle payload
 routed s c handle payload v Devices = answeredDevice s c handle payload
+routed s c handle payload v Orders = answeredOrder s c handle v payload
 routed s c handle payload v Host = effect (deliveredEvent c v) s []
 
 unfoldable pub dataFor : List ℕ → ℕ → ℕ → List ℕ → Found → Effect
@@ -103,21 +109,25 @@ unfoldable pub receiving : List ℕ → ℕ → List ℕ → Effect
 receiving s c m =
     pick (hears (eqb (readyAt s c) 1) (decoded m)) (heard s c m (decoded m)) (closing s c 1)
 
--- Refusal 3: "channel or service above 3; budget 0 or above 65,535".
+-- Refusal 3: "channel or service above 3; budget 0 or above 65,535"; 02, ticket 6: "3 for services 0 and 1", of setting a permission.
 unfoldable pub inRange : Action → Bool
 inRange (receive c m) = ltb c channelCount
 inRange (offer c v) = ltb c channelCount and ltb v serviceCount
 inRange (withdraw c v) = ltb c channelCount and ltb v serviceCount
 inRange (close c) = ltb c channelCount
 inRange (work budget) = leb 1 budget and leb budget mostBudget
+inRange (permit v permitted) = leb shutdownService v and leb v panicService
+inRange takeOrder = true
 
--- Refusal 6: "offer: channel closed or service not idle; withdraw: service idle; work: nothing outstanding".
+-- Refusal 6: "offer: channel closed or service not idle; withdraw: service idle; work: nothing outstanding"; 02, ticket 6, of taking: "6 if there is none".
 unfoldable pub allowed : List ℕ → Action → Bool
 allowed s (receive c m) = true
 allowed s (offer c v) = eqb (readyAt s c) 1 and eqb (stageAt s (placeOf c v)) stageIdle
 allowed s (withdraw c v) = not (eqb (stageAt s (placeOf c v)) stageIdle)
 allowed s (close c) = true
 allowed s (work budget) = isSet (outstandingOf s)
+allowed s (permit v permitted) = true
+allowed s takeOrder = isSet (orderOf s)
 
 -- what an accepted action does
 unfoldable pub effectOf : List ℕ → Action → Effect
@@ -126,6 +136,8 @@ effectOf s (offer c v) = offering s c v
 effectOf s (withdraw c v) = withdrawing s c v
 effectOf s (close c) = closing s c 0
 effectOf s (work budget) = working s budget .effects
+effectOf s (permit v permitted) = permitting s v permitted
+effectOf s takeOrder = taking s
 
 -- the pages that it moves: a work step's
 unfoldable pub pagesOf : List ℕ → Action → ℕ
@@ -134,9 +146,18 @@ pagesOf s (offer c v) = 0
 pagesOf s (withdraw c v) = 0
 pagesOf s (close c) = 0
 pagesOf s (work budget) = working s budget .pages
+pagesOf s (permit v permitted) = 0
+pagesOf s takeOrder = 0
 
 unfoldable pub refusalOf : List ℕ → List ℕ → List ℕ → Action → ℕ
 refusalOf s j out a = actionRefusal s (length j) (length out) (inRange a) (allowed s a)
+
+-- "the host takes the order, which the call returns": which one, and a shutdown's delay; on a refusal none
+unfoldable pub orderTaken : List ℕ → ℕ → TakenOrder
+orderTaken s n =
+    pick (eqb n 0)
+    (record { refusal = 0; order = orderOf s; delay = pick (eqb (orderOf s) orderShutdown) (delayOf s) 0 })
+    (record { refusal = n; order = orderNone; delay = 0 })
 
 -- "Drain copies the oldest entries to the start of a lent word run, as many whole ones as are held and fit, forgets them, returns their
 -- number, adds none, and touches no other word."
@@ -169,10 +190,12 @@ started l =
     (record { refusal = 7; state = setupState noLists })
 
 -- Show: "the part of its own message from byte 16 on, if it is well-formed DATA whose handle that sound state has registered there for
--- service 1, 2 or 3, else an empty part"; 02, ticket 1: "show is empty" for service 1.
+-- service 1, 2 or 3, else an empty part"; 02, ticket 1: "show is empty" for service 1; ticket 6: "show is empty" for 2 and 3. So it is
+-- empty for each of the four.
 unfoldable pub isHost : Route → Bool
 isHost Memory = false
 isHost Devices = false
+isHost Orders = false
 isHost Host = true
 
 unfoldable pub goesToHost : Found → Bool

@@ -3,13 +3,15 @@
 -- Assumes nothing.
 use Prim.Native.Nat.{ℕ}
 use mathlib.Core.Path.{_≡_}
+use mathlib.Core.Bool.{Bool}
 use mathlib.Core.List.{List, [], _∷_}
 use Rattle.model.specs.declared.Answer.{Answer}
 use Rattle.model.specs.declared.Worked.{Worked}
 use Rattle.model.specs.declared.Drained.{Drained}
 use Rattle.model.specs.declared.Started.{Started}
+use Rattle.model.specs.declared.TakenOrder.{TakenOrder}
 use Rattle.model.specs.Blocks.{Lists}
-use Rattle.model.specs.Calls.{Action, receive, offer, withdraw, close, work, Call, act, drain, Outcome, outcome, started, shown}
+use Rattle.model.specs.Calls.{Action, receive, offer, withdraw, close, work, permit, takeOrder, Call, act, drain, Outcome, outcome, refusalOf, orderTaken, started, shown}
 use Rattle.model.specs.Demand3.{Run, Done, after, runs, newRun, entries, Demand3}
 use Rattle.model.specs.Reading.{viewOf}
 use Rattle.model.specs.Replay.{good, checked}
@@ -32,6 +34,17 @@ worked r s j out = record {
   refusal = r .refusal;
   count = r .length;
   pages = r .pages;
+  state = s;
+  journal = j;
+  buffer = out;
+}
+
+-- "setting and taking have reply length 0"
+abbrev pub taken : TakenOrder → List ℕ → List ℕ → List ℕ → Outcome
+taken r s j out = record {
+  refusal = r .refusal;
+  count = 0;
+  pages = 0;
   state = s;
   journal = j;
   buffer = out;
@@ -69,6 +82,14 @@ ClosePost s j c out r s′ j′ out′ = ActionPost s j (close c) out r s′ j�
 abbrev pub WorkPost : List ℕ → List ℕ → ℕ → List ℕ → Worked → List ℕ → List ℕ → List ℕ → Type 0
 WorkPost s j budget out r s′ j′ out′ = worked r s′ j′ out′ ≡ outcome s j (act (work budget) out)
 
+abbrev pub PermitPost : List ℕ → List ℕ → ℕ → Bool → List ℕ → Answer → List ℕ → List ℕ → List ℕ → Type 0
+PermitPost s j v permitted out r s′ j′ out′ = ActionPost s j (permit v permitted) out r s′ j′ out′
+
+-- of take: what it leaves, and the order that it returns
+abbrev pub TakePost : List ℕ → List ℕ → List ℕ → TakenOrder → List ℕ → List ℕ → List ℕ → Type 0
+TakePost s j out r s′ j′ out′ =
+    (taken r s′ j′ out′ ≡ outcome s j (act takeOrder out)) × (r ≡ orderTaken s (refusalOf s j out takeOrder))
+
 abbrev pub DrainPost : List ℕ → List ℕ → List ℕ → Drained → List ℕ → List ℕ → List ℕ → Type 0
 DrainPost s j run r s′ j′ run′ = emptied r s′ j′ run′ ≡ outcome s j (drain run)
 
@@ -86,6 +107,10 @@ pub data Meets (s j : List ℕ) : Call → Outcome → Type 0 where
       {budget : ℕ} {out : List ℕ} {r : Worked} {s′ j′ out′ : List ℕ} →
       WorkPost s j budget out r s′ j′ out′ →
       Meets s j (act (work budget) out) (worked r s′ j′ out′)
+  takes :
+      {out : List ℕ} {r : TakenOrder} {s′ j′ out′ : List ℕ} →
+      TakePost s j out r s′ j′ out′ →
+      Meets s j (act takeOrder out) (taken r s′ j′ out′)
   drains :
       {run : List ℕ} {r : Drained} {s′ j′ run′ : List ℕ} →
       DrainPost s j run r s′ j′ run′ →

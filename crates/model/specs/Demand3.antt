@@ -19,7 +19,7 @@ use Rattle.model.specs.Blocks.{Lists}
 use Rattle.model.specs.Journal.{Entry, eventOf, entryAt, entriesAt, entriesIn, servedBy}
 use Rattle.model.specs.Messages.{DS-INV-HDL, DS-DATA, mostPayload, typeOf, payloadLength, nack}
 use Rattle.model.specs.Calls.{Call, act, drain, receive, Outcome, outcome, started}
-use Rattle.model.specs.Reading.{View, Stage, idle, offered, registered, viewOf, setupView, reading, devicesShown, setupDevices, readingDevices}
+use Rattle.model.specs.Reading.{View, Stage, idle, offered, registered, viewOf, setupView, reading, devicesShown, setupDevices, readingDevices, ordersShown, setupOrders, readingOrders}
 
 -- a call, and what it returned and left
 pub record Done : Type 0 where
@@ -140,6 +140,8 @@ pub record Demand3 (l : Lists) (s j : List ℕ) (ds : List Done) (u : Run) : Typ
   pub reads : reading (setupView l) (entries u) ≡ viewOf (u .state)
   -- 02, ticket 1: "Demand 3, begun and read with any accepted device list too, also gives back each device's state."
   pub readsDevices : readingDevices (setupDevices l) (entries u) ≡ devicesShown (u .state)
+  -- 02, ticket 6: "Permissions and the pending order join demand 3's reading"
+  pub readsOrders : readingOrders setupOrders (entries u) ≡ ordersShown (u .state)
   -- "In each accepted receive of the list ..": at each place of the same list, of what that receive itself returned and left
   pub delivers :
       (before later : List Done) (c handle : ℕ) (m out : List ℕ) (r : Outcome) →

@@ -4,18 +4,18 @@
 use Prim.Native.Nat.{ℕ, zero, suc, _+_, _*_, _/_, _≤_, _<_}
 use mathlib.Core.Path.{_≡_}
 use mathlib.Core.Bool.{Bool, true}
-use mathlib.Core.List.{List}
+use mathlib.Core.List.{List, [], _∷_}
 use lib.ListN.{length, getD}
 use lib.Seq.{sets}
 use Rattle.model.specs.Choice.{pick, tabulate, firstBelow}
 use Rattle.model.specs.declared.Found.{Found}
 use Rattle.model.specs.declared.Found.the-variants.{At}
 use Rattle.model.specs.declared.Removal.{Removal}
-use Rattle.model.specs.Layout.{channelCount, serviceCount, placeCount, mostRecords, mostHeld, highestNumber, highestMinor, stageIdle, stageOffered, stageRegistered, blockWords, stateWords, readyAt, stageAt, handleAt, minorAt, blocksOf, blockIn, blockAt, lastOf, heldOf, outstandingOf, cancelledOf, wordOf, removalOf, withService, withCounts, withRemoval, deviceWords, namePlace, firstDeviceWord, devicesOf, nameBytesIn}
+use Rattle.model.specs.Layout.{channelCount, serviceCount, placeCount, mostRecords, mostHeld, highestNumber, highestMinor, stageIdle, stageOffered, stageRegistered, blockWords, stateWords, readyAt, stageAt, handleAt, minorAt, blocksOf, blockIn, blockAt, lastOf, heldOf, outstandingOf, cancelledOf, wordOf, removalOf, withService, withCounts, withRemoval, deviceWords, namePlace, firstDeviceWord, devicesOf, nameBytesIn, shutdownService, panicService, firstPermissionWord, orderNone, orderShutdown, orderPanic, highestDelay, permissionAt, orderOf, delayOf}
 use Rattle.model.specs.Devices.{wordsHolding}
 use Rattle.model.specs.Blocks.{Lists, acceptedLists, setupState, names}
 use Rattle.model.specs.State.{sound}
-use Rattle.model.specs.Reading.{Stage, idle, offered, registered}
+use Rattle.model.specs.Reading.{Stage, idle, offered, registered, Order, noOrder, shutdown, panic, Orders}
 
 -- "What the agent holds", without words, but for request numbers, of which soundness says nothing. The lists are those of setup's form, with each block and device configured or not as it now is.
 pub record Told : Type 0 where
@@ -26,6 +26,7 @@ pub record Told : Type 0 where
   pub held : ℕ
   pub outstanding : Bool
   pub removal : Removal
+  pub orders : Orders
 
 -- a live service, and its handle
 pub data LiveAs : Stage → ℕ → Type 0 where
@@ -66,7 +67,7 @@ pub record RemovalTold (l : List ℕ) (last : ℕ) (m : Removal) : Type 0 where
 
 -- "A state is sound if its blocks keep these rules; services on closed channels are idle; live handles differ and lie between 1 and the last
 -- entry number used ..": 01's sentence, and what the numbers can be: a minor version has 16 bits, a settled record's result is OK or NOWORK. By 02, ticket 1, its
--- devices keep their rules too.
+-- devices keep their rules too; by ticket 6 a shutdown's delay has 32 bits.
 pub record SoundTold (t : Told) : Type 0 where
   pub lists : acceptedLists (t .lists) ≡ true
   pub onReady : (k handle : ℕ) → k < placeCount → LiveAs (t .service k) handle → t .ready (k / serviceCount) ≡ true
@@ -84,6 +85,7 @@ pub record SoundTold (t : Told) : Type 0 where
   pub helds : t .held ≤ mostHeld
   pub numbered : t .held ≤ t .last
   pub removes : t .outstanding ≡ true → RemovalTold (t .lists .blocks) (t .last) (t .removal)
+  pub delays : (delay : ℕ) → t .orders .order ≡ shutdown delay → delay ≤ highestDelay
 
 -- three words say a service
 unfoldable pub SaysService : ℕ → ℕ → ℕ → Stage → Type 0
@@ -102,6 +104,12 @@ pub record SaysRemoval (r m : Removal) : Type 0 where
   pub address : (i : ℕ) → i < m .count → getD (r .address) i 0 ≡ getD (m .address) i 0
   pub size : (i : ℕ) → i < m .count → getD (r .size) i 0 ≡ getD (m .size) i 0
   pub result : (i : ℕ) → i < m .position → getD (r .result) i 0 ≡ getD (m .result) i 0
+
+-- two words say an order
+unfoldable pub SaysOrder : ℕ → ℕ → Order → Type 0
+SaysOrder order delay noOrder = order ≡ orderNone
+SaysOrder order delay (shutdown d) = (order ≡ orderShutdown) × (delay ≡ d)
+SaysOrder order delay panic = order ≡ orderPanic
 
 -- the words s say the state t: of the words that have a meaning in it, those of request numbers left out
 pub record Says (s : List ℕ) (t : Told) : Type 0 where
@@ -122,6 +130,9 @@ pub record Says (s : List ℕ) (t : Told) : Type 0 where
   pub outstanding : outstandingOf s ≡ wordOf (t .outstanding)
   pub cancelled : t .outstanding ≡ true → cancelledOf s ≡ wordOf (t .removal .cancelled)
   pub removal : t .outstanding ≡ true → SaysRemoval (removalOf s) (t .removal)
+  pub shutdowns : permissionAt s shutdownService ≡ wordOf (t .orders .shutdownPermitted)
+  pub panics : permissionAt s panicService ≡ wordOf (t .orders .panicPermitted)
+  pub order : SaysOrder (orderOf s) (delayOf s) (t .orders .order)
 
 -- Words that say a state: those without a meaning in it are 0.
 
@@ -162,11 +173,26 @@ removalTold m = record {
   result = tabulate (λ i. getD (m .result) i 0) mostRecords;
 }
 
+-- the permissions and the order
+unfoldable pub orderTold : Order → ℕ
+orderTold noOrder = orderNone
+orderTold (shutdown delay) = orderShutdown
+orderTold panic = orderPanic
+
+unfoldable pub delayTold : Order → ℕ
+delayTold noOrder = 0
+delayTold (shutdown delay) = delay
+delayTold panic = 0
+
+unfoldable pub ordersTold : Orders → List ℕ
+ordersTold o =
+    wordOf (o .shutdownPermitted) ∷ wordOf (o .panicPermitted) ∷ orderTold (o .order) ∷ delayTold (o .order) ∷ []
+
 -- all but the removal
 unfoldable pub lowTold : Told → List ℕ
 lowTold t =
     withCounts
-    (servicesTold (t .service) placeCount (sets (setupState (t .lists)) 0 (tabulate (λ c. wordOf (t .ready c)) channelCount)))
+    (servicesTold (t .service) placeCount (sets (sets (setupState (t .lists)) firstPermissionWord (ordersTold (t .orders))) 0 (tabulate (λ c. wordOf (t .ready c)) channelCount)))
     (t .last)
     (t .held)
 

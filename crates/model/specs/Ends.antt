@@ -18,7 +18,7 @@ use Rattle.model.specs.Layout.{blockWords, blockIn, blockAt, outstanding
 use Rattle.model.specs.Blocks.{Lists, namedIn, namedBlock}
 use Rattle.model.specs.Journal.{Entry, eventOf, kindBegun, kindCollected, kindSettled, kindRemovalEnd}
 use Rattle.model.specs.Memory.{DR-MEM-UNCONFIGURE, DR-MEM-RES-OK, addrIn, sizeIn}
-use Rattle.model.specs.Calls.{Action, receive, offer, withdraw, close, work, Call, act, drain, Outcome}
+use Rattle.model.specs.Calls.{Action, receive, offer, withdraw, close, work, permit, takeOrder, Call, act, drain, Outcome}
 use Rattle.model.specs.Demand3.{Done, newRun, runs, entries, noEntry, noted}
 use Rattle.model.specs.Repeats.{addressAt, sizeAt, requestIn, leftBy, Requests, Hears}
 
@@ -53,6 +53,8 @@ isWork (offer c v) = false
 isWork (withdraw c v) = false
 isWork (close c) = false
 isWork (work budget) = true
+isWork (permit v permitted) = false
+isWork takeOrder = false
 
 unfoldable pub stepsBy : Call → Outcome → ℕ
 stepsBy (act a out) r = pick (isWork a and eqb (r .refusal) 0) 1 0

@@ -10,6 +10,7 @@
 --   the records' addresses; their sizes; the settled records' results: 0 OK, 4 NOWORK
 --   channel c: 0 if no memory request of right form came since service 0 was last registered there, else the next word is the highest number of those
 --   the number of devices; device i: id, configured (0 or 1), busy (0 or 1), the bytes of its name with the zero, the words of its name
+--   services 2 and 3: 1 if requests to it are permitted, else 0; the order that waits (0 none, 1 shutdown, 2 panic), a shutdown's delay
 -- Assumes nothing.
 use Prim.Native.Nat.{ℕ, _+_, _-_, _*_, _/_, _%_, _^_}
 use mathlib.Core.Bool.{Bool, true, false, not}
@@ -37,6 +38,13 @@ memoryService = 0
 -- the virtual devices' service, `dr-vio`
 abbrev pub deviceService : ℕ
 deviceService = 1
+
+-- domain-shutdown and domain-panic, the services of 02's ticket 6
+abbrev pub shutdownService : ℕ
+shutdownService = 2
+
+abbrev pub panicService : ℕ
+panicService = 3
 
 -- the services of all channels
 abbrev pub placeCount : ℕ
@@ -120,8 +128,29 @@ deviceHeaderBytes = 20
 abbrev pub deviceReplyBytes : ℕ
 deviceReplyBytes = 17
 
+-- a request to shut down (req_num, ms_delay) and to panic (req_num)
+abbrev pub shutdownBytes : ℕ
+shutdownBytes = 12
+
+abbrev pub panicBytes : ℕ
+panicBytes = 8
+
 abbrev pub outputBytes : ℕ
 outputBytes = replyHeaderBytes + mostRecords * queryBytes
+
+-- Orders for the host.
+abbrev pub orderNone : ℕ
+orderNone = 0
+
+abbrev pub orderShutdown : ℕ
+orderShutdown = 1
+
+abbrev pub orderPanic : ℕ
+orderPanic = 2
+
+-- a shutdown's delay has 32 bits
+abbrev pub highestDelay : ℕ
+highestDelay = 4294967295
 
 -- Stages of a service.
 abbrev pub stageIdle : ℕ
@@ -251,8 +280,18 @@ deviceCountWord = firstNumberedWord + channelCount * numberWords
 abbrev pub firstDeviceWord : ℕ
 firstDeviceWord = deviceCountWord + 1
 
+-- the permissions of services 2 and 3, and the order with its delay
+abbrev pub firstPermissionWord : ℕ
+firstPermissionWord = firstDeviceWord + mostDevices * deviceWords
+
+abbrev pub orderWord : ℕ
+orderWord = firstPermissionWord + (serviceCount - shutdownService)
+
+abbrev pub delayWord : ℕ
+delayWord = orderWord + 1
+
 abbrev pub stateWords : ℕ
-stateWords = firstDeviceWord + mostDevices * deviceWords
+stateWords = delayWord + 1
 
 -- the words of a removal, outstanding or not
 abbrev pub removalWords : ℕ
@@ -361,6 +400,16 @@ devicesOf s = getD s deviceCountWord 0
 abbrev pub deviceAt : List ℕ → ℕ → Device
 deviceAt s i = deviceIn s firstDeviceWord i
 
+-- 02, ticket 6: "The host sets, per service, whether it is permitted", of services 2 and 3; and "an order for the host", with a shutdown's delay
+abbrev pub permissionAt : List ℕ → ℕ → ℕ
+permissionAt s v = getD s (firstPermissionWord + (v - shutdownService)) 0
+
+abbrev pub orderOf : List ℕ → ℕ
+orderOf s = getD s orderWord 0
+
+abbrev pub delayOf : List ℕ → ℕ
+delayOf s = getD s delayWord 0
+
 -- a word as a test, and a test as a word
 abbrev pub isSet : ℕ → Bool
 isSet n = not (eqb n 0)
@@ -422,3 +471,10 @@ withNumber s c numbered highest = sets s (firstNumberedWord + c * numberWords) (
 -- device i configured (1) or unconfigured (0)
 unfoldable pub withDevice : List ℕ → ℕ → ℕ → List ℕ
 withDevice s i flag = set s (firstDeviceWord + i * deviceWords + deviceConfiguredPlace) flag
+
+-- service 2's or 3's permission, and the order
+unfoldable pub withPermission : List ℕ → ℕ → ℕ → List ℕ
+withPermission s v permitted = set s (firstPermissionWord + (v - shutdownService)) permitted
+
+unfoldable pub withOrder : List ℕ → ℕ → ℕ → List ℕ
+withOrder s order delay = sets s orderWord (order ∷ delay ∷ [])

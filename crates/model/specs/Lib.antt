@@ -10,6 +10,7 @@ pub mod Messages
 pub mod Memory
 pub mod Work
 pub mod DeviceRequests
+pub mod Orders
 pub mod Calls
 pub mod Reading
 pub mod Demand3

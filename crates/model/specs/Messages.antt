@@ -6,14 +6,14 @@ use mathlib.Core.List.{List, [], _∷_, _++_}
 use lib.ListN.{length, getD}
 use lib.Dec.{leb, eqb}
 use Rattle.wire.specs.BigEndian.{byteAt, numberAt, bytesOf}
-use Rattle.model.specs.Choice.{pick, _and_, every, firstBelow}
+use Rattle.model.specs.Choice.{pick, _and_, _or_, every, firstBelow}
 use Rattle.model.specs.declared.Found.{Found}
 use Rattle.model.specs.declared.Found.the-variants.{At, Nowhere}
 use Rattle.model.specs.declared.Route.{Route}
-use Rattle.model.specs.declared.Route.the-variants.{Memory, Devices, Host}
+use Rattle.model.specs.declared.Route.the-variants.{Memory, Devices, Orders, Host}
 use Rattle.model.specs.declared.Message.{Message}
 use Rattle.model.specs.declared.Message.the-variants.{InitReq, RegReq, RegAck, RegNack, Unreg, UnregAck, UnregNack, Data, Nack, Bad}
-use Rattle.model.specs.Layout.{serviceCount, memoryService, deviceService, dsHeaderBytes, stageIdle, stageOffered, stageRegistered, placeOf, stageAt, handleAt, lastOf, withChannel, withService, withNumber}
+use Rattle.model.specs.Layout.{serviceCount, memoryService, deviceService, shutdownService, panicService, dsHeaderBytes, stageIdle, stageOffered, stageRegistered, placeOf, stageAt, handleAt, lastOf, withChannel, withService, withNumber}
 use Rattle.model.specs.State.{ourHandle}
 use Rattle.model.specs.declared.Event.{Event}
 use Rattle.model.specs.Journal.{readyEvent, closedEvent, versionRefusedEvent, offeredEvent, registeredEvent, offerRefusedEvent, serviceEndedEvent, notedEvent}
@@ -46,9 +46,14 @@ noService = record { id = []; major = 0; minor = 0 }
 abbrev pub serviceOf : ℕ → Service
 serviceOf v = getD services v noService
 
--- "Service 0 is answered inside; data for the others goes to the host." 02, ticket 1: "Answer `dr-vio` inside".
+-- "Service 0 is answered inside; data for the others goes to the host." 02, ticket 1: "Answer `dr-vio` inside"; ticket 6: "Answer services 2 and 3". So none
+-- of the four goes to the host.
 unfoldable pub route : ℕ → Route
-route v = pick (eqb v memoryService) Memory (pick (eqb v deviceService) Devices Host)
+route v =
+    pick (eqb v memoryService) Memory
+    (pick (eqb v deviceService) Devices
+    (pick (eqb v shutdownService or eqb v panicService) Orders
+    Host))
 
 -- Types of messages.
 abbrev pub DS-INIT-REQ : ℕ

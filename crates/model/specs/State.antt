@@ -1,7 +1,7 @@
--- "A state is sound if ..". Beyond 01's sentence a word that no reading could mean (a ready, configured, busy, outstanding or cancelled flag above 1, a byte other than 0 after a device's name in its last word, a stage above 2, a registered minor
+-- "A state is sound if ..". Beyond 01's sentence a word that no reading could mean (a ready, configured, busy, outstanding or cancelled flag above 1, a byte other than 0 after a device's name in its last word, a permission above 1, an order above 2, a shutdown's delay of more than 32 bits, a stage above 2, a registered minor
 -- above 65,535, a settled record's result other than OK or NOWORK) makes a state not sound. Words without a meaning in the present state (an idle
 -- service's handle and minor, an offered one's minor, blocks past the count, a removal's words while none is outstanding, its records past
--- the count, results from the position on, devices past the count, words past a device's name) are free, and so are the words of request numbers, in which any number means something.
+-- the count, results from the position on, devices past the count, words past a device's name, the delay without a shutdown's order) are free, and so are the words of request numbers, in which any number means something.
 -- Assumes nothing.
 use Prim.Native.Nat.{ℕ, _/_}
 use mathlib.Core.Bool.{Bool, not}
@@ -12,7 +12,7 @@ use Rattle.model.specs.Choice.{pick, _and_, _or_, every}
 use Rattle.model.specs.declared.Found.{Found}
 use Rattle.model.specs.declared.Found.the-variants.{At, Nowhere}
 use Rattle.model.specs.declared.Removal.{Removal}
-use Rattle.model.specs.Layout.{channelCount, serviceCount, placeCount, mostRecords, mostHeld, highestNumber, highestMinor, stageIdle, stageOffered, stageRegistered, readyAt, stageAt, handleAt, minorAt, firstBlockWord, blocksOf, blockAt, lastOf, heldOf, outstandingOf, cancelledOf, removalOf, firstDeviceWord, devicesOf}
+use Rattle.model.specs.Layout.{channelCount, serviceCount, placeCount, mostRecords, mostHeld, highestNumber, highestMinor, stageIdle, stageOffered, stageRegistered, readyAt, stageAt, handleAt, minorAt, firstBlockWord, blocksOf, blockAt, lastOf, heldOf, outstandingOf, cancelledOf, removalOf, firstDeviceWord, devicesOf, shutdownService, panicService, orderPanic, orderShutdown, highestDelay, permissionAt, orderOf, delayOf}
 use Rattle.model.specs.Devices.{devicesKeep}
 use Rattle.model.specs.Blocks.{blocksKeep, namedBlock}
 
@@ -84,6 +84,14 @@ outstandingSound s =
     eqb (outstandingOf s) 0
     or (eqb (outstandingOf s) 1 and leb (cancelledOf s) 1 and removalSound s (lastOf s) (removalOf s))
 
+-- 02, ticket 6: a permission is set or not; an order is none, a shutdown with a delay of 32 bits, or a panic
+unfoldable pub ordersSound : List ℕ → Bool
+ordersSound s =
+    leb (permissionAt s shutdownService) 1
+    and leb (permissionAt s panicService) 1
+    and leb (orderOf s) orderPanic
+    and (not (eqb (orderOf s) orderShutdown) or leb (delayOf s) highestDelay)
+
 -- a state is sound
 unfoldable pub sound : List ℕ → Bool
 sound s =
@@ -96,3 +104,4 @@ sound s =
     and leb (heldOf s) (lastOf s)
     and outstandingSound s
     and devicesKeep s firstDeviceWord (devicesOf s)
+    and ordersSound s

@@ -31,7 +31,7 @@ fn hears(ready: bool, message: Message) -> bool
     }
 }
 
-// Data for a registered service: to the memory service, to the virtual devices', or to the host.
+// Data for a registered service: to the memory service, to the virtual devices', to those of orders, or to the host.
 fn deliver(
     state: &mut State,
     channel: usize,
@@ -47,6 +47,7 @@ fn deliver(
     match route {
         Route::Memory => memory::answer(state, channel as u64, handle, payload, out),
         Route::Devices => devices::answer(state, channel as u64, handle, payload, out),
+        Route::Orders => orders::answer(state, channel as u64, handle, service, payload, out),
         Route::Host => Handled {
             length: 0,
             event: events::delivered(channel as u64, service as u64),
@@ -150,6 +151,7 @@ fn is_host(route: Route) -> bool
     match route {
         Route::Memory => false,
         Route::Devices => false,
+        Route::Orders => false,
         Route::Host => true,
     }
 }

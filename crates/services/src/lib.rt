@@ -9,8 +9,10 @@ use model::DS_UNREG;
 use model::DS_UNREG_ACK;
 use model::DS_UNREG_NACK;
 use model::MEMORY_SERVICE;
+use model::PANIC_SERVICE;
 use model::Route;
 use model::SERVICE_COUNT;
+use model::SHUTDOWN_SERVICE;
 ghost use mathlib.Core.Path.{_≡_};
 ghost use mathlib.Core.List.{_++_};
 ghost use Prim.Native.Nat.{_+_, _<_, _≤_};
@@ -94,7 +96,7 @@ pub fn minor(service: usize) -> u64
     row.minor as u64
 }
 
-// "Service 0 is answered inside; data for the others goes to the host." "Answer `dr-vio` inside".
+// Each of the four services is answered inside.
 pub fn route(service: usize) -> Route
     ensures { λ r. ⌜ r ≡ route service ⌝ }
 {
@@ -103,6 +105,12 @@ pub fn route(service: usize) -> Route
     }
     if service == DEVICE_SERVICE {
         return Route::Devices;
+    }
+    if service == SHUTDOWN_SERVICE {
+        return Route::Orders;
+    }
+    if service == PANIC_SERVICE {
+        return Route::Orders;
     }
     Route::Host
 }

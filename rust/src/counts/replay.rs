@@ -3,6 +3,8 @@
 
 use super::devices::{lists, requests::Requests};
 use super::numbers::{Before, Numbers};
+use super::orders;
+use crate::entry::{KIND, SERVICE};
 use crate::lines::{Call, Host};
 
 #[derive(Default)]
@@ -20,8 +22,8 @@ impl Replay {
         !self.host.devices.is_empty()
     }
 
-    /// Performs a call; gives the names of what its numbers and its devices
-    /// met.
+    /// Performs a call; gives the names of what its numbers, its devices and
+    /// orders met.
     pub fn call(&mut self, call: &Call) -> Vec<String> {
         let before = Before::of(&self.host.state);
         let last = self.host.state.last;
@@ -30,8 +32,15 @@ impl Replay {
             _ => Vec::new(),
         };
         let met = self.requests.names(&self.host.state, call);
+        names.extend(orders::shown(&self.host.state, call));
+        let of_orders = orders::names(&self.host.state, call);
+        let touched = orders::touches(&self.host.state, call);
         self.answer.clear();
         self.host.perform(call, &mut self.answer);
+        if self.host.state.last > last {
+            names.extend(of_orders);
+            names.extend(touched.then(|| self.kept(call)).flatten());
+        }
         let received = matches!(call, Call::Receive(..));
         if self.host.state.last > last || !received {
             names.extend(met);
@@ -44,5 +53,12 @@ impl Replay {
             _ => {}
         }
         names
+    }
+
+    /// What the order that waits was kept by, after an accepted call.
+    fn kept(&self, call: &Call) -> Option<String> {
+        let order = self.host.state.orders.waiting?;
+        let [first, _] = self.host.entry(self.host.state.last);
+        orders::kept(order, call, KIND.of(first), SERVICE.of(first))
     }
 }

@@ -12,7 +12,7 @@ use crate::{build, memory, wire};
 /// An action, its weight, and whether it tends to undo what was built up.
 type Action = (fn(&mut Generator), u64, bool);
 
-pub(super) const ACTIONS: [Action; 23] = [
+pub(super) const ACTIONS: [Action; 26] = [
     (Generator::prepare, 30, false),
     (Generator::prepare_memory, 20, false),
     (Generator::good_memory, 30, false),
@@ -21,6 +21,9 @@ pub(super) const ACTIONS: [Action; 23] = [
     (Generator::device, 30, false),
     (Generator::damaged_device, 8, false),
     (Generator::odd_device_line, 1, false),
+    (Generator::order_request, 24, false),
+    (Generator::permit, 10, false),
+    (Generator::take, 6, false),
     (Generator::host_data, 8, false),
     (Generator::show, 4, false),
     (Generator::stray_data, 4, false),
@@ -203,7 +206,7 @@ impl Generator {
         }
     }
 
-    /// Data for a service of the host, shown before or after.
+    /// Any data for a service other than `dr-mem`, half of it shown before.
     fn host_data(&mut self) {
         let Some(live) = self.pick_live(|live| live.registered && live.service > 0) else {
             return self.prepare();
@@ -311,9 +314,10 @@ impl Generator {
         self.receive(channel, message);
     }
 
-    /// Any of the six calls, each as often as the others.
+    /// Any of the eight calls that a full journal or a size may refuse, each as
+    /// often as the others.
     pub(super) fn each_call(&mut self) {
-        match self.random.below(6) {
+        match self.random.below(8) {
             0 => self.any_message(),
             1 => self.offer(),
             2 => self.withdraw(),
@@ -322,6 +326,8 @@ impl Generator {
                 let budget = self.budget();
                 self.call(Call::Work(budget));
             }
+            5 => self.permit(),
+            6 => self.call(Call::Take),
             _ => self.call(Call::Drain(2)),
         }
     }
@@ -333,13 +339,14 @@ impl Generator {
             .random
             .pick(&[4, 4, 5, 7, 256, 1 << 32, 1 << 32 | 2, u64::MAX, high]);
         let good = self.channel();
-        let call = match self.random.below(7) {
+        let call = match self.random.below(8) {
             0 => Call::Receive(bad, messages::init_req(&mut self.random)),
             1 => Call::Offer(bad, good),
             2 => Call::Offer(good, bad),
             3 => Call::Withdraw(bad, good),
             4 => Call::Withdraw(good, bad),
             5 => Call::Close(bad),
+            6 => Call::Permit(self.random.pick(&[bad, 0, 1]), self.random.once_in(2)),
             _ => Call::Work(
                 self.random
                     .pick(&[0, 0, 65_536, 65_537, 1 << 32 | 1, u64::MAX]),

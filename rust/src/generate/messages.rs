@@ -1,7 +1,7 @@
 //! Random messages: well-formed ones of every type, and damaged ones.
 
-use super::devices;
 use super::random::Random;
+use super::{devices, orders};
 use crate::block::{Block, Pair, PAGE};
 use crate::removal::MAX_RECORDS;
 use crate::state::{Service, State, CHANNELS};
@@ -77,7 +77,7 @@ fn id(random: &mut Random) -> Vec<u8> {
 /// A message of a random type that is mostly well formed.
 pub fn any(random: &mut Random, state: &State, channel: u64) -> Vec<u8> {
     let handle = handle(random, state, channel);
-    match random.below(11) {
+    match random.below(12) {
         0 => init_req(random),
         1 => reg_req(random, handle),
         2 | 3 => registration(random, handle),
@@ -91,6 +91,10 @@ pub fn any(random: &mut Random, state: &State, channel: u64) -> Vec<u8> {
         9 => {
             let number = random.below(4);
             build::data(handle, &devices::request(random, state, number))
+        }
+        10 => {
+            let service = random.between(2, 3);
+            build::data(handle, &orders::request(random, service))
         }
         _ => {
             let message = bad_memory(random, state, channel);
@@ -126,7 +130,7 @@ pub fn noted(random: &mut Random, handle: u64) -> Vec<u8> {
     }
 }
 
-/// Data for a service of the host: any bytes, now and then the longest.
+/// Data for any service: any bytes, now and then the longest.
 pub fn host_data(random: &mut Random) -> Vec<u8> {
     let length = match random.weighted(&[60, 15, 20, 3, 2]) {
         0 => random.between(1, 24),

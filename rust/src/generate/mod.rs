@@ -5,6 +5,7 @@ mod actions;
 mod devices;
 mod messages;
 pub(crate) mod noise;
+mod orders;
 pub mod random;
 pub(crate) mod setups;
 pub(crate) mod text;

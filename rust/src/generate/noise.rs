@@ -3,7 +3,7 @@
 use super::random::Random;
 use crate::lines::MAX_LINE;
 
-pub const ODD: [&[u8]; 66] = [
+pub const ODD: [&[u8]; 78] = [
     b"",
     b"\r",
     b" \r",
@@ -70,6 +70,18 @@ pub const ODD: [&[u8]; 66] = [
     b"device 1 0 0 00\r",
     b"device\t1 0 0 00",
     b"setup 0 1  0 0 0",
+    b"permit",
+    b"permit 2",
+    b"permit 2 ",
+    b"permit 2 1 1",
+    b"permit 2 2",
+    b"permit 3 18446744073709551615",
+    b"permit 3 0x100000001",
+    b"permit 2 x",
+    b"permit x 1",
+    b"Permit 2 1",
+    b"take 1",
+    b"take ",
 ];
 
 /// Beginnings of long lines, and what fills them.

@@ -20,11 +20,15 @@ pub fn write_call(call: &Call, random: &mut Random, text: &mut Vec<u8>) {
             write_number(channel, random, text);
             write_number(service, random, text);
         }
+        Call::Permit(service, permitted) => {
+            write_number(service, random, text);
+            write_number(permitted.into(), random, text);
+        }
         Call::Close(number) | Call::Work(number) => write_number(number, random, text),
         Call::Drain(size) | Call::Output(size) | Call::Journal(size) => {
             write_number(size as u64, random, text);
         }
-        Call::State => {}
+        Call::State | Call::Take => {}
         Call::Device(ref device) => {
             for number in [device.id, device.configured, device.busy] {
                 write_number(number, random, text);

@@ -26,6 +26,8 @@ pub enum Call {
     Output(usize),
     Journal(usize),
     Device(DeviceLine),
+    Permit(u64, bool),
+    Take,
 }
 
 impl Ask for Call {
@@ -61,6 +63,10 @@ impl Ask for Call {
             (b"drain", Some(words), None) => Some(Call::Drain(up_to(words, MAX_RUN)?)),
             (b"output", Some(size), None) => Some(Call::Output(up_to(size, MAX_OUTPUT)?)),
             (b"journal", Some(words), None) => Some(Call::Journal(up_to(words, MAX_JOURNAL)?)),
+            (b"permit", Some(service), Some(permitted)) => {
+                Some(Call::Permit(number(service)?, up_to(permitted, 1)? == 1))
+            }
+            (b"take", None, None) => Some(Call::Take),
             (b"state", None, None) => Some(Call::State),
             _ => None,
         }
@@ -68,8 +74,8 @@ impl Ask for Call {
 }
 
 impl Call {
-    /// Whether it is one of 01's calls; the other lines only ask for the state
-    /// or prepare a call.
+    /// Whether it is a call of the agent; the other lines only ask for the
+    /// state or prepare a call.
     pub fn is_counted(&self) -> bool {
         !matches!(
             self,
@@ -92,6 +98,8 @@ impl Call {
             Call::Output(_) => "output",
             Call::Journal(_) => "journal",
             Call::Device(_) => "device",
+            Call::Permit(..) => "permit",
+            Call::Take => "take",
         }
     }
 }

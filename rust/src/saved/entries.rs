@@ -33,16 +33,16 @@ pub fn entry(random: &mut Random, reading: &Reading, kind: usize) -> [u64; 2] {
     words
 }
 
-/// A channel and service: for kinds 10 to 13 mostly registered ones, of which
-/// each service is as likely, and for 11 to 13 service 0; else often a ready
-/// channel.
+/// A channel and service: for kinds 8 and 10 to 13 mostly registered ones, of
+/// which each service is as likely, and for 11 to 13 service 0; else often a
+/// ready channel.
 fn place(random: &mut Random, reading: &Reading, kind: usize) -> (u64, u64) {
     let any = (random.below(CHANNELS as u64), random.below(SERVICES as u64));
     let fits = |channel: &u64, service: u64| {
         let channel = &reading.channels[*channel as usize];
         let held = channel.services[service as usize];
         let registered = matches!(held, Service::Registered { .. });
-        channel.ready && (registered || !(10..=13).contains(&kind))
+        channel.ready && (registered || !matches!(kind, 8 | 10..=13))
     };
     let channels = 0..CHANNELS as u64;
     let anywhere = |service: &u64| channels.clone().any(|channel| fits(&channel, *service));

@@ -5,6 +5,7 @@ use crate::block::PAGE;
 use crate::reader::{ENTRY, WORD};
 use crate::state::{JOURNAL_WORDS, LAST_NUMBER, OUTPUT_BYTES, SLOTS};
 use crate::{build, close, drain, memory, offer, receive, setup, wire, withdraw, work};
+use crate::{permit, take};
 use crate::{Pair, State};
 use std::io::{self, Write};
 
@@ -114,11 +115,14 @@ impl<W: Write> Agent<W> {
     }
 
     /// Everything that a channel can see, from its INIT_REQ to its end: an
-    /// entry of each kind, most of them answers to QUERY.
+    /// entry of each kind of 01 that is written still, and of those of orders,
+    /// most of them answers to QUERY.
     fn round(&mut self, channel: u64) -> io::Result<()> {
         self.receive(channel, &build::init_req(1, 0))?;
-        let host = self.register(channel, 3)?;
-        self.receive(channel, &build::data(host, b"panic"))?;
+        let panic = self.register(channel, 3)?;
+        call!(self, permit, 3, true);
+        self.receive(channel, &build::data(panic, &build::panic(1)))?;
+        call!(self, take);
         let refused = self.offer(channel, 1)?;
         self.receive(channel, &build::reg_nack(refused, 1, 0))?;
         self.receive(channel, &build::data(refused, b"late"))?;

@@ -23,11 +23,11 @@ pub fn whole(random: &mut Random, drained: &Saved) -> Saved {
 }
 
 /// Adds entries of the kinds that show nothing, where the file stays good:
-/// kind 10 needs its service.
+/// kinds 8 and 10 need their service.
 fn add_others(random: &mut Random, saved: &mut Saved) {
     for _ in 0..random.between(1, 6) {
         let kind = match random.once_in(2) {
-            true => 10,
+            true => random.pick(&[8, 10]),
             false => random.pick(&OTHERS),
         };
         let place = random.up_to(saved.entries.len() as u64) as usize;

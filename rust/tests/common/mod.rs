@@ -132,6 +132,23 @@ impl Bench {
         Ok((worked.pages, self.reply(worked.length)))
     }
 
+    pub fn permit(&mut self, service: u64, permitted: bool) -> Reply {
+        let length = permit(
+            &mut self.state,
+            service,
+            permitted,
+            &mut self.journal,
+            &mut self.out,
+        )?;
+        Ok(self.reply(length))
+    }
+
+    pub fn take(&mut self) -> Result<Order, u64> {
+        let order = take(&mut self.state, &mut self.journal, &mut self.out)?;
+        self.reply(0);
+        Ok(order)
+    }
+
     /// Everything that is held.
     pub fn drain(&mut self) -> Vec<(u64, u64)> {
         let mut run = [0; 128];

@@ -1,8 +1,12 @@
 -- `reception::deliver` meets its contract: each way by its own function.
 -- Assumes nothing.
-use mathlib.Core.Path.{refl, sym, _∙_}
+use mathlib.Core.Path.{_≡_, refl, sym, _∙_}
+use native.Mathlib.Omega.{arith}
 use Rattle.wire.specs.BigEndian.{written}
+use Rattle.model.specs.declared.Route.the-variants.{Orders}
+use Rattle.model.specs.Messages.{route}
 use Rattle.model.specs.Calls.{routed, dataFor}
+use Rattle.reception.proofs.Laws.{orders-services}
 use borrow.Author.Needs.{needs}
 use Rattle.reception.proofs.deliver.Statement.{statement}
 use Rattle.reception.proofs.deliver.Tie as tie
@@ -25,6 +29,19 @@ answer-requires-2 c κs = search needs
 enum-told-3 : tie.Need-enum-told-3
 enum-told-3 c = search needs
 
+abbrev start : tie.After-enum-told3 → tie.Start
+start c = c .before .before .before .before .before
+
+-- where the way is that of orders
+to-orders : (c : tie.After-enum-told3) → route (start c .args .service) ≡ Orders
+to-orders c = sym (c .before .before .route .ensures) ∙ c .enum-told3 .given .1
+
+answer-requires-3 : tie.Need-answer-requires-3
+answer-requires-3 c κs = let v = orders-services _ (to-orders (c .before .before)) in (omega arith, omega arith, search needs)
+
+enum-told-4 : tie.Need-enum-told-4
+enum-told-4 c = search needs
+
 delivered-requires : tie.Need-delivered-requires
 delivered-requires c κs = search needs
 
@@ -42,9 +59,16 @@ returns-2 : tie.Need-returns-2
 unfolding dataFor routed
 returns-2 c = let t = c .before .before .before .before .before in rw (sym (t .before .before .route .ensures) ∙ t .enum-told2 .given .1) (c .before .before .answer2 .ensures)
 
+same-length-3 : tie.Need-same-length-3
+same-length-3 c = search needs
+
 returns-3 : tie.Need-returns-3
+unfolding dataFor routed
+returns-3 c = rw (to-orders (c .before .before .before .before .before)) (c .before .before .answer3 .ensures)
+
+returns-4 : tie.Need-returns-4
 unfolding dataFor routed written
-returns-3 c = let t = c .before in rw (sym (t .before .before .route .ensures) ∙ t .enum-told3 .given .1) (record { length′ = refl; notes = c .delivered .ensures; state = refl; output = refl })
+returns-4 c = let t = c .before in rw (sym (t .before .before .route .ensures) ∙ t .enum-told4 .given .1) (record { length′ = refl; notes = c .delivered .ensures; state = refl; output = refl })
 
 pub deliver-spec : {M : Type 1} → statement M
 deliver-spec =
@@ -56,9 +80,13 @@ deliver-spec =
     enum-told-2
     answer-requires-2
     enum-told-3
+    answer-requires-3
+    enum-told-4
     delivered-requires
     same-length
     returns
     same-length-2
     returns-2
-    returns-3)
+    same-length-3
+    returns-3
+    returns-4)

@@ -1,0 +1,58 @@
+use Prim.Native.Nat.{ℕ}
+use mathlib.Core.Path.{_≡_}
+use native.Mathlib.Omega.{arith}
+use borrow.Author.Tests.{eq-eqb, ne-eqb}
+use Rattle.model.specs.Choice.{pick}
+use Rattle.model.specs.Layout.{shutdownService, shutdownBytes}
+use Rattle.model.specs.Orders.{orderBytes, orderingFor}
+use borrow.Author.Needs.{needs}
+use Rattle.orders.proofs.leave_for.Statement.{statement}
+use Rattle.orders.proofs.leave_for.Tie as tie
+
+-- a request to shut down has its delay
+shutdown-bytes : {v : ℕ} → v ≡ shutdownService → orderBytes v ≡ shutdownBytes
+unfolding orderBytes pick
+shutdown-bytes e = rw (eq-eqb _ _ e)
+
+number-of-requires : tie.Need-number-of-requires
+number-of-requires c κs = search needs
+
+get32-requires : tie.Need-get32-requires
+get32-requires c κs = omega (arith, shutdown-bytes (c .if1 .taken))
+
+leave-requires : tie.Need-leave-requires
+leave-requires c κs = search needs
+
+same-length : tie.Need-same-length
+same-length c = search needs
+
+returns : tie.Need-returns
+unfolding orderingFor pick
+returns c =
+    let c₅ : _ = c .before .before .before .before .before in
+    rw (eq-eqb _ _ (c₅ .before .if1 .taken), ← c₅ .before .before .number-of .ensures, ← c₅ .get32 .ensures .0) (c .before .before .leave .ensures)
+
+leave-requires-2 : tie.Need-leave-requires-2
+leave-requires-2 c κs = search needs
+
+same-length-2 : tie.Need-same-length-2
+same-length-2 c = search needs
+
+returns-2 : tie.Need-returns-2
+unfolding orderingFor pick
+returns-2 c =
+    let c₅ : _ = c .before .before .before .before .before in
+    rw (ne-eqb _ _ (c₅ .if1 .left), ← c₅ .before .number-of .ensures) (c .before .before .leave2 .ensures)
+
+pub leave-for-spec : {M : Type 1} → statement M
+leave-for-spec =
+    tie.close
+    (tie.spec
+    number-of-requires
+    get32-requires
+    leave-requires
+    same-length
+    returns
+    leave-requires-2
+    same-length-2
+    returns-2)
