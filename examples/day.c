@@ -28,13 +28,13 @@ int main(void)
 {
     static const uint64_t blocks[] = {0x10000000, 4, 0, 0, 1, 0x20000000, 2, 1, 1, 1};
     static const uint8_t init_1_0[] = {0, 0, 0, 0, 0, 0, 0, 4, 0, 1, 0, 0};
-    static const uint8_t reg_ack_2[] = {0, 0, 0, 4, 0, 0, 0, 10, 0, 0, 0, 0, 0, 0, 0, 2, 0, 0};
-    static const uint8_t unconfigure_a[] = {0,    0,    0, 9, 0, 0, 0, 0x28, 0, 0, 0, 0, 0, 0, 0, 2,
+    static const uint8_t reg_ack_2[] = {0, 0, 0, 4, 0, 0, 0, 10, 0x80, 0, 0, 0, 0, 0, 0, 2, 0, 0};
+    static const uint8_t unconfigure_a[] = {0,    0,    0, 9, 0, 0, 0, 0x28, 0x80, 0, 0, 0, 0, 0, 0, 2,
                                             0,    0, 0x4d, 0x55, 0, 0, 0, 1, 0, 0, 0, 0, 0, 0, 0, 9,
                                             0,    0,    0, 0, 0x10, 0, 0, 0, 0, 0, 0, 0, 0, 0, 0x80, 0};
     uint64_t run[ARKELUTZ_JOURNAL_WORDS];
     uint64_t state[ARKELUTZ_STATE_WORDS];
-    uint64_t refused = arkelutz_setup(state, blocks, sizeof blocks / sizeof *blocks, NULL, 0);
+    uint64_t refused = arkelutz_setup(state, blocks, sizeof blocks / sizeof *blocks, NULL, 0, NULL, 0);
 
     refused |= receive(state, init_1_0, sizeof init_1_0);
     refused |= arkelutz_offer(state, CHANNEL, MEMORY_SERVICE, journal, ARKELUTZ_JOURNAL_WORDS, out, sizeof out).refusal;

@@ -20,7 +20,7 @@
 extern "C" {
 #endif
 
-#define ARKELUTZ_STATE_WORDS 1356
+#define ARKELUTZ_STATE_WORDS 1661
 #define ARKELUTZ_JOURNAL_WORDS 128 /* every call but setup and show asks for a journal of just this length */
 #define ARKELUTZ_OUTPUT_BYTES 672  /* and, but for drain, for an output of this length or more */
 
@@ -39,16 +39,43 @@ struct arkelutz_device {
     uint64_t name[ARKELUTZ_NAME_BYTES / 8];
 };
 
-/* Gives a device the name that a string has, on either byte order. A string of more than 255 bytes gives a length that setup refuses. */
-static inline void arkelutz_name_device(struct arkelutz_device *device, const char *name)
+/*
+ * An id of a service that the other end may register, as an id list has it: 7 words. The id is its bytes with their zero (1 to 32), held as a device's name is.
+ */
+#define ARKELUTZ_ID_WORDS 7
+#define ARKELUTZ_ID_BYTES 32
+
+struct arkelutz_id {
+    uint64_t major;         /* up to 65,535 */
+    uint64_t highest_minor; /* up to 65,535 */
+    uint64_t id_bytes;
+    uint64_t id[ARKELUTZ_ID_BYTES / 8];
+};
+
+/* Our handles have this bit over the number of the offer's entry; those that the other end chooses have not. */
+#define ARKELUTZ_TOP_BIT ((uint64_t)1 << 63)
+
+/* Writes the bytes of a string into words, on either byte order, and returns how many there are with the zero; at most one more than the words hold. */
+static inline uint64_t arkelutz_put_string(uint64_t *words, size_t room, const char *string)
 {
     size_t bytes = 0;
 
-    for (size_t i = 0; i < ARKELUTZ_NAME_BYTES / 8; i++)
-        device->name[i] = 0;
-    for (; name[bytes] != 0 && bytes < ARKELUTZ_NAME_BYTES; bytes++)
-        device->name[bytes / 8] |= (uint64_t)(unsigned char)name[bytes] << (56 - bytes % 8 * 8);
-    device->name_bytes = bytes + 1;
+    for (size_t i = 0; i < room / 8; i++)
+        words[i] = 0;
+    for (; string[bytes] != 0 && bytes < room; bytes++)
+        words[bytes / 8] |= (uint64_t)(unsigned char)string[bytes] << (56 - bytes % 8 * 8);
+    return bytes + 1;
+}
+
+/* Gives a device the name that a string has, or an id its bytes. A string of more than 255 or 31 bytes gives a length that setup refuses. */
+static inline void arkelutz_name_device(struct arkelutz_device *device, const char *name)
+{
+    device->name_bytes = arkelutz_put_string(device->name, ARKELUTZ_NAME_BYTES, name);
+}
+
+static inline void arkelutz_name_id(struct arkelutz_id *id, const char *bytes)
+{
+    id->id_bytes = arkelutz_put_string(id->id, ARKELUTZ_ID_BYTES, bytes);
 }
 
 struct arkelutz_answer {
@@ -71,9 +98,12 @@ struct arkelutz_order {
     uint64_t order;
 };
 
-/* Takes a block list, five words a block, and a device list, ARKELUTZ_DEVICE_WORDS words a device, writes the first state, and returns the refusal, 0 or 7. */
+/*
+ * Takes a block list, five words a block, a device list, ARKELUTZ_DEVICE_WORDS words a device, and an id list, ARKELUTZ_ID_WORDS words an id, writes the first
+ * state, and returns the refusal, 0 or 7.
+ */
 uint64_t arkelutz_setup(uint64_t *state, const uint64_t *blocks, size_t block_words, const uint64_t *devices,
-                        size_t device_words);
+                        size_t device_words, const uint64_t *ids, size_t id_words);
 
 /* Receives a message on a channel. */
 struct arkelutz_answer arkelutz_receive(uint64_t *state, size_t channel, const uint8_t *message, size_t message_bytes,

@@ -1,11 +1,11 @@
 /*
  * Calls on made states, the same on every machine: states CALLS SEED.
  *
- * A state is set up from random lists of blocks and devices and brought on by messages; before a call some of its words may be replaced by
+ * A state is set up from random lists of blocks, devices and ids and brought on by messages; before a call some of its words may be replaced by
  * random ones. Each call writes a line with what it returned and a hash, which goes on from call to call, of every word of the state and the
  * journal, every byte of the output and every word of the run after it; each WORDS_EVERY calls the state's words follow. At the end stand the
- * answers of each call by refusal number. It fails if a call was never accepted, an order of either kind never taken, or no state was unsound,
- * and if show had a part that is not empty.
+ * answers of each call by refusal number. It fails if a call was never accepted, an order of either kind never taken, no state was unsound, the
+ * other end never had a service registered or ended, or show never had a part.
  */
 #include "arkelutz.h"
 
@@ -23,7 +23,13 @@
 #define NAME 4 /* the first of a device's words that hold its name */
 #define NAME_WORDS 32
 #define DEVICE_COUNT 199 /* the state's word before those of devices */
-#define PERMISSION (ARKELUTZ_STATE_WORDS - 4) /* the first of two permissions, the order and its delay */
+#define PERMISSION (DEVICE_COUNT + 1 + DEVICES * DEVICE_WORDS) /* the first of two permissions, the order and its delay */
+#define IDS 16
+#define ID_WORDS 7
+#define ID 3 /* the first of an id's words that hold it */
+#define ID_BYTES 32
+#define ID_COUNT (PERMISSION + 4) /* the state's word before those of ids; those of peer registrations follow them */
+#define PEERS 4 /* handles that the other end chooses */
 #define SHUTDOWN 2 /* the service domain-shutdown; domain-panic is the next one */
 #define ORDERS 3   /* none, shutdown, panic */
 #define RECORDS 16
@@ -45,8 +51,10 @@ static uint64_t list[BLOCKS * BLOCK_WORDS + 1];
 static size_t list_words;
 static uint64_t devices[(DEVICES + 1) * DEVICE_WORDS + 1];
 static size_t device_words;
+static uint64_t ids[(IDS + 1) * ID_WORDS + 1];
+static size_t id_words;
 static uint64_t handles[CHANNELS][SERVICES], request;
-static uint64_t counts[CALLS][REFUSALS], taken[ORDERS], parts, done, seed, hash = 14695981039346656037u;
+static uint64_t counts[CALLS][REFUSALS], taken[ORDERS], parts, registered, ended, done, seed, hash = 14695981039346656037u;
 
 static uint64_t any(void) /* splitmix64 */
 {
@@ -121,6 +129,33 @@ static uint64_t handle_of(uint64_t channel, uint64_t service)
     return channel < CHANNELS && below(12) ? handles[channel][service] : sized();
 }
 
+/* A REG_REQ of the other end: of an id of the list, or of none. */
+static void put_registration(void)
+{
+    uint64_t listed = id_words / ID_WORDS;
+    const uint64_t *id = ids + ID_WORDS * below(listed ? listed : 1);
+    uint64_t bytes = below(8) && id[2] && id[2] <= ID_BYTES ? id[2] : 1 + below(ID_BYTES);
+
+    header(3, (uint32_t)(12 + bytes));
+    put(below(10) ? below(PEERS) : sized(), 8);
+    put(below(8) ? id[0] : below(4), 2);
+    put(below(4), 2);
+    for (uint64_t i = 0; i + 1 < bytes; i++)
+        put(id[ID + i / 8] >> (56 - 8 * (i % 8)), 1);
+    put(0, 1);
+}
+
+/* An UNREG or data under a handle of the other end. */
+static void put_peer(void)
+{
+    uint64_t bytes = below(3) ? below(20) : 0;
+
+    header(bytes ? 9 : 6, (uint32_t)(8 + bytes));
+    put(below(PEERS), 8);
+    for (uint64_t i = 0; i < bytes; i++)
+        put(below(256), 1);
+}
+
 /* A memory request: of blocks of the list, or of none. */
 static void put_request(uint64_t channel)
 {
@@ -184,7 +219,17 @@ static void make_message(uint64_t channel)
     uint32_t type;
     uint8_t bit;
 
-    switch (below(26)) {
+    switch (below(32)) {
+    case 26:
+    case 27:
+    case 28:
+        put_registration();
+        break;
+    case 29:
+    case 30:
+    case 31:
+        put_peer();
+        break;
     case 0:
         header(0, 4);
         put(below(6) ? 1 : below(4), 2);
@@ -249,6 +294,8 @@ static void receive(uint64_t channel)
     size_t words = journal_words(), bytes = out_bytes();
     struct arkelutz_answer a = arkelutz_receive(state, channel, message, message_bytes, journal, words, out, bytes);
     told(RECEIVE, a.refusal, a.length, 0);
+    registered += a.length > 0 && out[3] == 4;
+    ended += a.length > 0 && out[3] == 7 && out[8] < 0x80;
 }
 
 static void offer(uint64_t channel, uint64_t service)
@@ -298,6 +345,40 @@ static void make_devices(void)
         device_words = below(device_words + 2);
 }
 
+/* An id of so many bytes, told apart by its first; the words past it may be anything. */
+static void make_id(uint64_t *id, uint64_t first, uint64_t bytes)
+{
+    id[0] = below(3);
+    id[1] = below(4);
+    id[2] = bytes;
+    for (uint64_t i = 0; i + 1 < bytes; i++) {
+        uint64_t byte = i ? 1 + below(255) : first;
+        id[ID + i / 8] |= byte << (56 - 8 * (i % 8));
+    }
+    if (below(2))
+        return;
+    for (uint64_t i = (bytes + 7) / 8; i < ID_BYTES / 8; i++)
+        id[ID + i] = any();
+}
+
+static void make_ids(void)
+{
+    uint64_t count = below(4) ? below(6) : below(IDS + 2);
+
+    memset(ids, 0, sizeof ids);
+    id_words = count * ID_WORDS;
+    for (uint64_t i = 0; i < count; i++) {
+        uint64_t bytes = 2 + below(below(4) ? 8 : ID_BYTES - 1), first = below(16) ? 1 + i : 1;
+        make_id(ids + i * ID_WORDS, first, bytes);
+    }
+    if (below(8) == 0) {
+        uint64_t word = sized();
+        ids[below(id_words + 1)] = word;
+    }
+    if (below(30) == 0)
+        id_words = below(id_words + 2);
+}
+
 static void begin(void)
 {
     uint64_t blocks = below(6) ? 1 + below(6) : below(BLOCKS + 1), base = PAGE * below(1000);
@@ -325,7 +406,8 @@ static void begin(void)
         state[i] = any();
     request = below(3) ? below(100) : any();
     make_devices();
-    told(SETUP, arkelutz_setup(state, list, list_words, devices, device_words), 0, 0);
+    make_ids();
+    told(SETUP, arkelutz_setup(state, list, list_words, devices, device_words, ids, id_words), 0, 0);
     for (uint64_t channel = 0; channel < CHANNELS; channel++) {
         if (below(4) == 0)
             continue;
@@ -400,7 +482,7 @@ static void one_call(void)
     case 7:
         make_message(channel);
         if (below(2))
-            put_data(channel);
+            put_peer();
         bytes = arkelutz_show(state, channel, message, message_bytes);
         parts += bytes > 0;
         told(SHOW, 0, bytes, 0);
@@ -418,11 +500,13 @@ static void one_call(void)
     }
 }
 
-/* The place of a word to replace: half of them before those of devices, a few of permissions and the order. */
+/* The place of a word to replace: half of them before those of devices, a few of permissions and the order, some of ids and peer registrations. */
 static size_t place(void)
 {
     if (below(2))
         return below(DEVICE_COUNT + 1);
+    if (below(3) == 0)
+        return ID_COUNT + below(ARKELUTZ_STATE_WORDS - ID_COUNT);
     return below(5) ? below(ARKELUTZ_STATE_WORDS) : PERMISSION + below(4);
 }
 
@@ -471,6 +555,7 @@ int main(int argc, char **argv)
         unsound += counts[call][UNSOUND];
     }
     printf("orders taken: shutdown %" PRIu64 ", panic %" PRIu64 "\n", taken[1], taken[2]);
+    printf("peer registrations: %" PRIu64 " made, %" PRIu64 " ended\n", registered, ended);
     printf("parts of show that are not empty: %" PRIu64 "\n", parts);
-    return !(whole && unsound > 0 && taken[1] > 0 && taken[2] > 0 && parts == 0);
+    return !(whole && unsound > 0 && taken[1] > 0 && taken[2] > 0 && registered > 0 && ended > 0 && parts > 0);
 }

@@ -7,10 +7,12 @@
 mod devices;
 mod independent_agent;
 mod orders;
+mod peers;
 mod proved_agent;
 
 use devices::Devices;
 use independent_agent::Independent;
+use peers::Peers;
 use proved_agent::Proved;
 use std::hint::black_box;
 use std::time::Instant;
@@ -21,11 +23,17 @@ const BLOCK_BYTES: u64 = 1 << 33;
 const QUERY: u32 = 0x4d51;
 const UNCONFIGURE: u32 = 0x4d55;
 const BATCH: usize = 48;
+/// Our handles have the top bit over the offer's entry number; on channel 0
+/// those of `dr-mem`, `dr-vio` and `domain-shutdown`.
+const TOP_BIT: u64 = 1 << 63;
+const MEMORY: u64 = TOP_BIT | 2;
+const VIO: u64 = TOP_BIT | 4;
+const SHUTDOWN: u64 = TOP_BIT | 6;
 
 /// The calls that are timed, and those that lead to them.
 pub trait Agent {
     type State: Copy;
-    fn setup(blocks: &[u64], devices: &[u64]) -> Result<Self::State, u64>;
+    fn setup(blocks: &[u64], devices: &[u64], ids: &[u64]) -> Result<Self::State, u64>;
     fn receive(
         state: &mut Self::State,
         channel: u64,
@@ -96,20 +104,29 @@ fn request(memory_type: u32, number: u64, count: u64, blocks: u64, handle: u64) 
 impl<A: Agent> Host<A> {
     /// `blocks` configured blocks of 1,048,576 pages, one page of each permanent
     /// but for the last; `channels` channels with four services registered each.
-    fn new(blocks: u64, channels: u64, devices: Devices) -> Self {
+    fn new(blocks: u64, channels: u64, devices: Devices, peers: Peers) -> Self {
         let mut list = Vec::new();
         for block in 0..blocks {
             let permanent = u64::from(block + 1 < blocks);
             list.extend([block * BLOCK_BYTES, 1 << 20, 0, permanent, 1]);
         }
         let mut host = Host {
-            state: A::setup(&list, &devices.words()).expect("the lists are accepted"),
+            state: A::setup(&list, &devices.words(), &peers.words())
+                .expect("the lists are accepted"),
             journal: [0; 128],
             out: [0; 672],
             run: [0; 128],
         };
         for channel in 0..channels {
             host.register(channel);
+        }
+        host.drain_all();
+        for registration in 0..peers.registrations {
+            let channel = registration / 8;
+            if channel >= channels && registration % 8 == 0 {
+                host.receive(channel, &ds_message(0, &[0, 1, 0, 0]));
+            }
+            host.receive(channel, &peers::reg_req(registration % 8, registration));
         }
         host.drain_all();
         host
@@ -175,13 +192,14 @@ impl<A: Agent> Host<A> {
     }
 }
 
-/// A case: the blocks, the channels that are ready, the devices, what comes
-/// before the calls, and the calls of a batch.
+/// A case: the blocks, the channels that are ready, the devices, the peer's
+/// ids and registrations, what comes before the calls, and the calls of a batch.
 struct Case {
     name: String,
     blocks: u64,
     channels: u64,
     devices: Devices,
+    peers: Peers,
     prepare: Prepare,
     calls: Calls,
 }
@@ -203,6 +221,8 @@ enum Calls {
     Denied,
     /// Permit, a shutdown request that succeeds, and take, in turn.
     Orders,
+    /// REG_REQ and UNREG of the peer in turn.
+    Peer,
     Work,
     DrainOne,
     DrainFull,
@@ -210,13 +230,13 @@ enum Calls {
 
 impl Case {
     fn host<A: Agent>(&self) -> Host<A> {
-        let mut host = Host::<A>::new(self.blocks, self.channels, self.devices);
+        let mut host = Host::<A>::new(self.blocks, self.channels, self.devices, self.peers);
         match self.prepare {
             Prepare::Nothing => {}
-            Prepare::Removal => host.receive(0, &request(UNCONFIGURE, 1, 1, self.blocks, 2)),
+            Prepare::Removal => host.receive(0, &request(UNCONFIGURE, 1, 1, self.blocks, MEMORY)),
             Prepare::Full => {
                 for number in 0..64 {
-                    host.receive(0, &request(QUERY, number, 1, self.blocks, 2));
+                    host.receive(0, &request(QUERY, number, 1, self.blocks, MEMORY));
                 }
             }
         }
@@ -234,12 +254,10 @@ impl Case {
             match self.calls {
                 Calls::Orders if number % 3 == 0 => host.permit(),
                 Calls::Orders if number % 3 == 2 => host.take(),
-                Calls::Query(_) | Calls::Device | Calls::Denied | Calls::Orders => {
-                    host.receive(0, message);
-                }
                 Calls::Work => host.work(),
                 Calls::DrainOne => host.drain(2),
                 Calls::DrainFull => {}
+                _ => host.receive(0, message),
             }
         }
     }
@@ -259,13 +277,14 @@ impl Case {
         least.min(nanoseconds)
     }
 
-    /// The message of a call; handle 2 is that of `dr-mem`, 4 that of `dr-vio`, 6
-    /// that of `domain-shutdown`.
+    /// The message of a call.
     fn message(&self, number: u64) -> Vec<u8> {
         match self.calls {
-            Calls::Device => ds_message(9, &self.devices.request(4, number)),
-            Calls::Denied | Calls::Orders => ds_message(9, &orders::request(6, number)),
-            Calls::Query(records) => request(QUERY, number, records, self.blocks, 2),
+            Calls::Device => ds_message(9, &self.devices.request(VIO, number)),
+            Calls::Denied | Calls::Orders => ds_message(9, &orders::request(SHUTDOWN, number)),
+            Calls::Query(records) => request(QUERY, number, records, self.blocks, MEMORY),
+            Calls::Peer if number.is_multiple_of(2) => peers::reg_req(15, 100),
+            Calls::Peer => peers::unreg(100),
             _ => Vec::new(),
         }
     }
@@ -307,12 +326,14 @@ fn cases() -> Vec<Case> {
                 blocks,
                 channels,
                 devices: Devices::NONE,
+                peers: Peers::NONE,
                 prepare: Prepare::Nothing,
                 calls: Calls::Query(records),
             });
         }
     }
     cases.extend(device_cases());
+    cases.extend(peer_cases());
     let others = [
         ("shutdown request, denied", Prepare::Nothing, Calls::Denied),
         (
@@ -330,6 +351,7 @@ fn cases() -> Vec<Case> {
             blocks: 16,
             channels: 1,
             devices: Devices::NONE,
+            peers: Peers::NONE,
             prepare,
             calls,
         });
@@ -352,11 +374,34 @@ fn device_cases() -> Vec<Case> {
             blocks: 4,
             channels: 1,
             devices,
+            peers: Peers::NONE,
             prepare: Prepare::Nothing,
             calls,
         });
     }
     cases
+}
+
+/// With sixteen ids: a query of one of four blocks with no, eight and all
+/// registrations of the peer, and one that comes and goes beside no and seven others.
+fn peer_cases() -> Vec<Case> {
+    let queries = Peers::ALL.map(|peers| (format!("QUERY: {peers}"), peers, Calls::Query(1)));
+    let turns = [0, 7].map(|registrations| {
+        let peers = Peers::some(registrations);
+        let name = format!("REG_REQ, UNREG in turn: {peers}");
+        (name, peers, Calls::Peer)
+    });
+    let rows = queries.into_iter().chain(turns);
+    rows.map(|(name, peers, calls)| Case {
+        name,
+        blocks: 4,
+        channels: 1,
+        devices: Devices::NONE,
+        peers,
+        prepare: Prepare::Nothing,
+        calls,
+    })
+    .collect()
 }
 
 fn main() {

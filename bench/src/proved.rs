@@ -1,7 +1,7 @@
 //! The proved agent, by its static library. Nothing checks these declarations
 //! against crates/exports but the comparisons of results in this package.
 
-pub const STATE_WORDS: usize = 1_356;
+pub const STATE_WORDS: usize = 1_661;
 
 /// The agent's state.
 pub type Words = [u64; STATE_WORDS];
@@ -46,6 +46,8 @@ extern "C" {
         block_words: usize,
         devices: *const u64,
         device_words: usize,
+        ids: *const u64,
+        id_words: usize,
     ) -> u64;
     fn arkelutz_receive(
         state: *mut Words,
@@ -126,7 +128,7 @@ extern "C" {
 
 /// Writes the first state; gives the refusal.
 #[inline]
-pub fn setup(state: &mut Words, blocks: &[u64], devices: &[u64]) -> u64 {
+pub fn setup(state: &mut Words, blocks: &[u64], devices: &[u64], ids: &[u64]) -> u64 {
     unsafe {
         arkelutz_setup(
             state,
@@ -134,6 +136,8 @@ pub fn setup(state: &mut Words, blocks: &[u64], devices: &[u64]) -> u64 {
             blocks.len(),
             devices.as_ptr(),
             devices.len(),
+            ids.as_ptr(),
+            ids.len(),
         )
     }
 }

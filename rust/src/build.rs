@@ -1,7 +1,13 @@
 //! Messages as a peer sends them, for the generator and the tests.
 
 use crate::block::Pair;
+use crate::state::TOP_BIT;
 use crate::wire;
+
+/// Our handle of an offer whose entry has this number.
+pub const fn ours(number: u64) -> u64 {
+    TOP_BIT | number
+}
 
 /// A DS message with the right payload_len.
 pub fn ds(ds_type: u32, payload: &[u8]) -> Vec<u8> {

@@ -3,6 +3,7 @@
 mod devices;
 mod numbers;
 mod orders;
+mod peers;
 mod replay;
 
 use crate::comparing::Tally;
@@ -83,6 +84,7 @@ const MUST_REACH: [(&str, &str); 30] = [
 fn must_reach() -> Vec<String> {
     let mut names = vec!["line bad".to_string()];
     let of_tickets = devices::MUST_REACH.into_iter().chain(orders::MUST_REACH);
+    let of_tickets = of_tickets.chain(peers::MUST_REACH);
     for (group, members) in MUST_REACH.into_iter().chain(of_tickets) {
         names.extend(
             members
@@ -185,9 +187,13 @@ impl Tally for Counts {
             Line::Bad | Line::Call(_) => {
                 self.add("line bad".into());
                 let why = devices::line::bad(line).or_else(|| orders::line::bad(line));
+                let why = why.or_else(|| peers::line::bad(line));
                 why.into_iter().for_each(|name| self.add(name));
                 if line.starts_with(b"setup") && self.replay.has_devices() {
                     self.add("device lines kept by a bad setup line".into());
+                }
+                if line.starts_with(b"setup") && self.replay.has_ids() {
+                    self.add("peer lines kept by a bad setup line".into());
                 }
             }
         }
@@ -417,7 +423,13 @@ impl Counts {
 
     /// All calls of lists, `state` not counted.
     pub fn calls(&self) -> u64 {
-        let not = ["call state", "call output", "call journal", "call device"];
+        let not = [
+            "call state",
+            "call output",
+            "call journal",
+            "call device",
+            "call peer",
+        ];
         let calls = self
             .listed
             .iter()
@@ -432,16 +444,16 @@ impl Counts {
 impl Display for Counts {
     fn fmt(&self, text: &mut Formatter) -> fmt::Result {
         for (name, count) in &self.listed {
-            writeln!(text, "{name:48} {count:>10}")?;
+            writeln!(text, "{name:52} {count:>10}")?;
         }
-        writeln!(text, "{:48} {:>10} {:>11}", "refusals", "lists", "bounds")?;
+        writeln!(text, "{:52} {:>10} {:>11}", "refusals", "lists", "bounds")?;
         for number in 1..=8 {
             let lists = self.refusals(number);
             let made = match &self.made {
                 Some(made) => made[number].to_string(),
                 None => "-".to_string(),
             };
-            writeln!(text, "refusal {number:<40} {lists:>10} {made:>11}")?;
+            writeln!(text, "refusal {number:<44} {lists:>10} {made:>11}")?;
         }
         Ok(())
     }

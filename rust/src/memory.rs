@@ -97,6 +97,7 @@ pub struct Reply<'a> {
 impl Reply<'_> {
     /// Writes both headers for `follow` bytes of records; gives the length of
     /// the whole reply.
+    #[inline]
     fn headers(&mut self, memory_type: u32, argument: usize, follow: usize) -> usize {
         let payload = RECORDS_START - wire::HEADER + follow;
         // The argument is at most 16.

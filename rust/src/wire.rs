@@ -14,6 +14,8 @@ pub const NACK: u32 = 0xa;
 
 /// REG_NACK's result: the major version is not supported.
 pub const REG_VER_NACK: u64 = 1;
+/// REG_NACK's result: a duplicate registration.
+pub const REG_DUP: u64 = 2;
 /// NACK's result: the handle is not valid.
 pub const INV_HDL: u64 = 3;
 /// Type and payload_len.
@@ -23,11 +25,20 @@ pub const MAX_PAYLOAD: usize = 4_096;
 /// Where a DATA message's own data begin: after header and handle.
 pub const DATA_START: usize = 16;
 
+/// The payload of REG_REQ; the id has its only zero at its end.
+#[derive(Clone, Copy, Debug, PartialEq, Eq)]
+pub struct RegReq<'a> {
+    pub handle: u64,
+    pub major: u16,
+    pub minor: u16,
+    pub id: &'a [u8],
+}
+
 /// A well-formed message; only what the agent uses of it.
 #[derive(Clone, Copy, Debug, PartialEq, Eq)]
 pub enum Message<'a> {
     InitReq { major: u16 },
-    RegReq { handle: u64 },
+    RegReq(RegReq<'a>),
     RegAck { handle: u64, minor: u16 },
     RegNack { handle: u64 },
     Unreg { handle: u64 },
@@ -42,7 +53,7 @@ impl Message<'_> {
     pub fn ds_type(&self) -> u32 {
         match self {
             Message::InitReq { .. } => INIT_REQ,
-            Message::RegReq { .. } => REG_REQ,
+            Message::RegReq(_) => REG_REQ,
             Message::RegAck { .. } => REG_ACK,
             Message::RegNack { .. } => REG_NACK,
             Message::Unreg { .. } => UNREG,
@@ -135,7 +146,14 @@ pub fn parse(message: &[u8]) -> Option<Message<'_>> {
             major: get16(payload, 0),
         }),
         (REG_REQ, 13..=1_036) => {
-            ends_at_only_zero(&payload[12..]).then(|| Message::RegReq { handle: handle() })
+            let id = &payload[12..];
+            let asked = RegReq {
+                handle: handle(),
+                major: get16(payload, 8),
+                minor: get16(payload, 10),
+                id,
+            };
+            ends_at_only_zero(id).then_some(Message::RegReq(asked))
         }
         (REG_ACK, 10) => Some(Message::RegAck {
             handle: handle(),

@@ -31,7 +31,10 @@ fn sixty_three_and_sixty_four_held() {
 
 impl Bench {
     fn unconfigure_refused(&mut self) {
-        let message = build::data(2, &build::request(memory::UNCONFIGURE, 9, &[A]));
+        let message = build::data(
+            build::ours(2),
+            &build::request(memory::UNCONFIGURE, 9, &[A]),
+        );
         assert_eq!(self.receive(2, &message), Err(4));
     }
 }
@@ -85,7 +88,12 @@ fn drain_runs() {
 fn outputs_of_671_and_672_bytes() {
     let mut bench = Bench::with_memory();
     let pairs: Vec<Pair> = (1..=16).map(|addr| Pair { addr, size: 1 }).collect();
-    let query = |number| build::data(2, &build::request(memory::QUERY, number, &pairs));
+    let query = |number| {
+        build::data(
+            build::ours(2),
+            &build::request(memory::QUERY, number, &pairs),
+        )
+    };
     bench.out.truncate(671);
     let before = bench.clone();
     assert_eq!(bench.receive(2, &query(1)), Err(2));
@@ -182,10 +190,10 @@ fn ids_of_reg_req() {
 fn closed_channels_take_init_req_only() {
     let messages = [
         build::reg_req(1, 1, 0, b"x\0"),
-        build::reg_ack(2, 0),
-        build::of_handle(6, 2),
-        build::nack(2, 3),
-        build::data(2, b""),
+        build::reg_ack(build::ours(2), 0),
+        build::of_handle(6, build::ours(2)),
+        build::nack(build::ours(2), 3),
+        build::data(build::ours(2), b""),
     ];
     for message in messages {
         let mut bench = Bench::with_memory();
@@ -202,7 +210,9 @@ fn with_shutdown() -> Bench {
     let mut bench = Bench::with_memory();
     bench.receive(1, &build::init_req(1, 0)).unwrap();
     bench.offer(1, 2).unwrap();
-    bench.receive(1, &build::reg_ack(5, 0)).unwrap();
+    bench
+        .receive(1, &build::reg_ack(build::ours(5), 0))
+        .unwrap();
     bench
 }
 
@@ -210,12 +220,18 @@ fn with_shutdown() -> Bench {
 fn show_is_empty() {
     let bench = with_shutdown();
     for channel in [0, 1, 2, 4, 1 << 32 | 1, u64::MAX] {
-        for handle in [2, 5, 5 | 1 << 32] {
+        for handle in [
+            2,
+            5,
+            build::ours(2),
+            build::ours(5),
+            build::ours(5 | 1 << 32),
+        ] {
             let message = build::data(handle, b"stop");
             assert_eq!(show(&bench.state, channel, &message), b"");
             assert_eq!(show(&bench.state, channel, &message[..19]), b"");
         }
-        let message = build::ds(7, &5u64.to_be_bytes());
+        let message = build::ds(7, &build::ours(5).to_be_bytes());
         assert_eq!(show(&bench.state, channel, &message), b"");
     }
 }
@@ -223,7 +239,9 @@ fn show_is_empty() {
 #[test]
 fn handles_are_64_bits_and_of_their_channel() {
     let mut bench = with_shutdown();
-    for handle in [2 | 1 << 32, 2 << 32, 0, 5, u64::MAX] {
+    let own = [2 | 1 << 32, 2 << 32, 0, 5].map(build::ours);
+    let bare = [2, 2 << 32, 0, 5, u64::MAX];
+    for handle in own.into_iter().chain(bare) {
         let reply = bench.receive(2, &build::data(handle, b"abc")).unwrap();
         assert_eq!(reply, build::nack(handle, 3));
         assert_eq!(bench.last_entry(), (9, 0, 0, 0, handle));
@@ -231,7 +249,7 @@ fn handles_are_64_bits_and_of_their_channel() {
         assert_eq!(reply, build::of_handle(8, handle));
     }
     bench.offer(2, 1).unwrap();
-    let handle = bench.state.last;
+    let handle = build::ours(bench.state.last);
     let offered = bench.state.channels;
     bench
         .receive(2, &build::reg_ack(handle | 1 << 32, 0))
@@ -252,9 +270,12 @@ fn an_old_handle_does_not_outlive_init_req() {
     let mut bench = Bench::with_memory();
     bench.receive(2, &build::init_req(1, 0)).unwrap();
     assert_eq!(
-        bench.receive(2, &build::data(2, b"abc")),
-        Ok(build::nack(2, 3))
+        bench.receive(2, &build::data(build::ours(2), b"abc")),
+        Ok(build::nack(build::ours(2), 3))
     );
-    assert_eq!(bench.receive(2, &build::reg_ack(2, 0)), Ok(vec![]));
+    assert_eq!(
+        bench.receive(2, &build::reg_ack(build::ours(2), 0)),
+        Ok(vec![])
+    );
     assert_eq!(bench.state.channels[2].services[0], Service::Idle);
 }

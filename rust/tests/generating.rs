@@ -77,9 +77,9 @@ fn memory_list(messages: &[Vec<u8>]) -> String {
     let mut list = "setup 0 1 0 0 1\n".to_string();
     list += &receive(&build::init_req(1, 0));
     list += "offer 0 0\n";
-    list += &receive(&build::reg_ack(2, 0));
+    list += &receive(&build::reg_ack(build::ours(2), 0));
     for message in messages {
-        list += &receive(&build::data(2, message));
+        list += &receive(&build::data(build::ours(2), message));
     }
     list
 }
@@ -119,7 +119,8 @@ fn counts_of_numbers() {
     names.sort();
     assert_eq!(names, expected);
     // A second registration, whose first number is not above the first's.
-    let again = receive(&build::reg_ack(11, 0)) + &receive(&build::data(11, &cancel(0)));
+    let again = receive(&build::reg_ack(build::ours(11), 0))
+        + &receive(&build::data(build::ours(11), &cancel(0)));
     let list = list + "withdraw 0 0\noffer 0 0\n" + &again;
     let first = [
         "number first 0",
@@ -169,14 +170,14 @@ fn counts_of_devices() {
     assert_eq!(names, expected);
     let mut list = "device 1 1 1 6100\nsetup\n".to_string() + &receive(&build::init_req(1, 0));
     list += "offer 0 1\n";
-    list += &receive(&build::reg_ack(2, 0));
+    list += &receive(&build::reg_ack(build::ours(2), 0));
     for data in [
         build::device(1, 1, UNCONFIGURE, b"a\0"),
         build::device(1, 2, STATUS, b"a\0"),
         build::device(0, 1, STATUS, b"a"),
         vec![0; 5],
     ] {
-        list += &receive(&build::data(2, &data));
+        list += &receive(&build::data(build::ours(2), &data));
     }
     list += "drain 256\n";
     for name in [
@@ -197,10 +198,10 @@ fn counts_of_devices() {
 fn counts_of_orders() {
     let mut list = "setup\n".to_string() + &receive(&build::init_req(1, 0));
     list += "offer 0 2\n";
-    list += &receive(&build::reg_ack(2, 0));
-    let request = receive(&build::data(2, &build::shutdown(1, 0)));
+    list += &receive(&build::reg_ack(build::ours(2), 0));
+    let request = receive(&build::data(build::ours(2), &build::shutdown(1, 0)));
     list += &format!("permit 1 1\npermit 2 1\n{request}{request}permit 2 0\n{request}");
-    list += &receive(&build::data(2, &[0; 7]));
+    list += &receive(&build::data(build::ours(2), &[0; 7]));
     list += "withdraw 0 2\ntake\ntake\npermit 2 2\ntake 1\ndrain 256\n";
     for name in [
         "permit refused 1",
@@ -230,6 +231,67 @@ fn counts_of_orders() {
     }
     let others = ["panic ", "order kept by close", "show of service 2"];
     for name in others {
+        assert_eq!(reached(&list, name), [""; 0]);
+    }
+}
+
+#[test]
+fn counts_of_peers() {
+    let mut list = "peer 1 2 6100\npeer 1 2 6200\nsetup\n".to_string();
+    list += &receive(&build::init_req(1, 0));
+    for (handle, major, minor, id) in [
+        (7, 1, 3, b"a\0"),
+        (7, 1, 3, b"b\0"),
+        (8, 1, 3, b"a\0"),
+        (1 << 63, 2, 3, b"b\0"),
+        (8, 0, 3, b"b\0"),
+        (8, 2, 3, b"b\0"),
+        (8, 2, 3, b"c\0"),
+        (0, 1, 1, b"b\0"),
+    ] {
+        list += &receive(&build::reg_req(handle, major, minor, id));
+    }
+    let data = build::data(7, b"x");
+    let unreg = receive(&build::of_handle(6, 7));
+    list += &receive(&data);
+    list += &receive(&data).replace("receive", "show");
+    list += &format!("{unreg}{unreg}{}", receive(&data));
+    list += "close 0\ndrain 256\npeer 1\npeer 1 0 61\nsetup x\nsetup\n";
+    for name in [
+        "peer REG_REQ acknowledged with our minor",
+        "peer REG_REQ acknowledged with their minor",
+        "peer REG_REQ DUP by handle",
+        "peer REG_REQ DUP by id",
+        "peer REG_REQ DUP by top bit",
+        "peer DUP before higher major",
+        "peer REG_REQ lower major",
+        "peer REG_REQ higher major",
+        "peer REG_REQ not listed",
+        "peer handle 0",
+        "peer live on a channel 2",
+        "handle of DATA a peer's live",
+        "handle of DATA a peer's ended",
+        "handle of UNREG a peer's live",
+        "handle of UNREG a peer's ended",
+        "show of a peer's data a part",
+        "call show part",
+        "peers dropped by close",
+        "entry kind 22",
+        "entry kind 23",
+        "entry kind 24",
+        "DS sent REG_ACK",
+        "id list of 2 to 15",
+        "id list refused no zero at the end",
+        "peer line bad missing field",
+        "peer lines kept by a bad setup line",
+    ] {
+        assert_eq!(reached(&list, name), [name]);
+    }
+    for name in [
+        "peer REG_REQ DUP by ninth",
+        "peers dropped by INIT_REQ",
+        "peer live on a channel 3",
+    ] {
         assert_eq!(reached(&list, name), [""; 0]);
     }
 }

@@ -127,7 +127,7 @@ fn what_is_answered_error_does_not_count() {
 /// Offers `dr-mem` on channel 2 and registers it; gives its handle.
 fn register(bench: &mut Bench) -> u64 {
     bench.offer(2, 0).unwrap();
-    let handle = bench.state.last;
+    let handle = build::ours(bench.state.last);
     bench.receive(2, &build::reg_ack(handle, 0)).unwrap();
     handle
 }
@@ -144,7 +144,11 @@ fn a_new_registration_begins_anew() {
     type End = fn(&mut Bench);
     let ends: [End; 4] = [
         |bench| assert!(bench.withdraw(2, 0).is_ok()),
-        |bench| assert!(bench.receive(2, &build::of_handle(6, 2)).is_ok()),
+        |bench| {
+            assert!(bench
+                .receive(2, &build::of_handle(6, build::ours(2)))
+                .is_ok())
+        },
         |bench| assert!(bench.receive(2, &build::init_req(1, 0)).is_ok()),
         |bench| {
             bench.close(2).unwrap();
@@ -170,18 +174,18 @@ fn only_its_own_reg_ack_begins_anew() {
     let mut bench = Bench::with_memory();
     assert!(accepts(&mut bench, 7));
     // Noted: the handle is registered already, or is none.
-    for handle in [2, 3, 2 | 1 << 32] {
+    for handle in [2, 3, 2 | 1 << 32].map(build::ours) {
         bench.receive(2, &build::reg_ack(handle, 0)).unwrap();
         assert!(!accepts(&mut bench, 7));
     }
     // Another service, and `dr-mem` on another channel.
     bench.offer(2, 2).unwrap();
-    let other = bench.state.last;
+    let other = build::ours(bench.state.last);
     bench.receive(2, &build::reg_ack(other, 0)).unwrap();
     assert!(!accepts(&mut bench, 7));
     bench.receive(1, &build::init_req(1, 0)).unwrap();
     bench.offer(1, 0).unwrap();
-    let elsewhere = bench.state.last;
+    let elsewhere = build::ours(bench.state.last);
     bench.receive(1, &build::reg_ack(elsewhere, 0)).unwrap();
     assert!(!accepts(&mut bench, 7));
     // Each channel has its own highest number.
@@ -201,7 +205,7 @@ fn a_refused_call_moves_no_number() {
     assert!(accepts(&mut bench, 1));
     bench.out.truncate(671);
     let before = bench.clone();
-    let cancel = build::data(2, &build::request(memory::CANCEL, 5, &[]));
+    let cancel = build::data(build::ours(2), &build::request(memory::CANCEL, 5, &[]));
     assert_eq!(bench.receive(2, &cancel), Err(2));
     assert_eq!(bench, before);
     bench.out.push(0xee);
@@ -229,7 +233,7 @@ fn a_removal_keeps_its_number() {
 #[test]
 fn the_state_line_does_not_write_it() {
     let list = |number: u64| {
-        let cancel = build::data(2, &build::request(memory::CANCEL, number, &[]));
+        let cancel = build::data(build::ours(2), &build::request(memory::CANCEL, number, &[]));
         let digits: String = cancel.iter().map(|byte| format!("{byte:02x}")).collect();
         format!(
             "receive 2 000000000000000400010000\noffer 2 0\n\

@@ -27,15 +27,18 @@ fn permitted() -> String {
     let mut list = receive(&build::init_req(1, 0));
     for (service, handle) in [(2, 2), (3, 4)] {
         list += &format!("offer 1 {service}\n");
-        list += &receive(&build::reg_ack(handle, 0));
+        list += &receive(&build::reg_ack(build::ours(handle), 0));
     }
     list + "permit 2 1\npermit 3 1\n"
 }
 
 #[test]
 fn lines_and_their_answers() {
-    let shutdown = receive(&build::data(2, &build::shutdown(1, 4_294_967_295)));
-    let panic = receive(&build::data(4, &build::panic(1)));
+    let shutdown = receive(&build::data(
+        build::ours(2),
+        &build::shutdown(1, 4_294_967_295),
+    ));
+    let panic = receive(&build::data(build::ours(4), &build::panic(1)));
     let calls = format!(
         "{}{shutdown}take\ntake\n{panic}take\npermit 1 1\n",
         permitted()
@@ -45,10 +48,10 @@ fn lines_and_their_answers() {
     let expected = [
         "permit accepted",
         "permit accepted",
-        "receive accepted 00000009000000140000000000000002000000000000000100000000",
+        "receive accepted 00000009000000148000000000000002000000000000000100000000",
         "take accepted shutdown 4294967295",
         "take refused 6",
-        "receive accepted 00000009000000140000000000000004000000000000000100000000",
+        "receive accepted 00000009000000148000000000000004000000000000000100000000",
         "take accepted panic",
         "permit refused 3",
         "permit accepted",
@@ -56,9 +59,9 @@ fn lines_and_their_answers() {
         "drain accepted 12",
         "entry 000000010a000000 0000000000000000",
         "entry 0000000223000000 0000000000000000",
-        "entry 000000032b000000 0000000000000002",
+        "entry 000000032b000000 8000000000000002",
         "entry 0000000423800000 0000000000000000",
-        "entry 000000052b800000 0000000000000004",
+        "entry 000000052b800000 8000000000000004",
         "entry 0000000699010000 0000000000000000",
         "entry 0000000799810000 0000000000000000",
         "entry 00000008ab000000 00000000ffffffff",
@@ -79,14 +82,14 @@ fn what_the_state_shows() {
     let state = |list: &str| shown(list)[..3].join(", ");
     let both = "permission 2 permitted, permission 3 permitted";
     assert_eq!(state(&list), format!("{both}, order none"));
-    let shutdown = receive(&build::data(2, &build::shutdown(1, 12)));
+    let shutdown = receive(&build::data(build::ours(2), &build::shutdown(1, 12)));
     let left = format!("{list}{shutdown}");
     assert_eq!(state(&left), format!("{both}, order shutdown 12"));
     assert_eq!(
         state(&format!("{left}permit 2 0\nclose 1\n")),
         "permission 2 denied, permission 3 permitted, order shutdown 12"
     );
-    let panic = receive(&build::data(4, &build::panic(1)));
+    let panic = receive(&build::data(build::ours(4), &build::panic(1)));
     let left = format!("{list}{panic}permit 3 0\n");
     assert_eq!(
         state(&left),

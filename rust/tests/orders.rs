@@ -13,7 +13,9 @@ fn with_orders() -> Bench {
     bench.receive(1, &build::init_req(1, 0)).unwrap();
     for (service, handle) in [(2, 2), (3, 4)] {
         bench.offer(1, service).unwrap();
-        bench.receive(1, &build::reg_ack(handle, 0)).unwrap();
+        bench
+            .receive(1, &build::reg_ack(build::ours(handle), 0))
+            .unwrap();
     }
     bench
 }
@@ -30,7 +32,7 @@ const fn answered(service: u64, result: u64) -> u64 {
     21 << 27 | 1 << 25 | service << 23 | result << 16
 }
 
-/// A call by the host, or a request with its handle, its data, the whole reply,
+/// A call by the host, or a request with its handle (the top bit left out), its data, the whole reply,
 /// and service, result and w of its entry.
 enum Step {
     Permit(u64, bool),
@@ -43,37 +45,37 @@ use Step::{Ask, Permit, Take};
 #[rustfmt::skip]
 const BY_HAND: [Step; 25] = [
     // Denied until set.
-    Ask(2, "0000000000000001 000003e8", "00000009 0000001b 0000000000000002 0000000000000001 00000001 64656e69656400", [2, 1, 0]),
-    Ask(4, "0000000000000002", "00000009 0000001b 0000000000000004 0000000000000002 00000001 64656e69656400", [3, 1, 0]),
+    Ask(2, "0000000000000001 000003e8", "00000009 0000001b 8000000000000002 0000000000000001 00000001 64656e69656400", [2, 1, 0]),
+    Ask(4, "0000000000000002", "00000009 0000001b 8000000000000004 0000000000000002 00000001 64656e69656400", [3, 1, 0]),
     // One service permitted: the other stays denied.
     Permit(2, true),
-    Ask(4, "0000000000000002", "00000009 0000001b 0000000000000004 0000000000000002 00000001 64656e69656400", [3, 1, 0]),
-    Ask(2, "0000000000000003 000003e8", "00000009 00000014 0000000000000002 0000000000000003 00000000", [2, 0, 1_000]),
+    Ask(4, "0000000000000002", "00000009 0000001b 8000000000000004 0000000000000002 00000001 64656e69656400", [3, 1, 0]),
+    Ask(2, "0000000000000003 000003e8", "00000009 00000014 8000000000000002 0000000000000003 00000000", [2, 0, 1_000]),
     // A second one, and one of the other service, while the order waits.
-    Ask(2, "0000000000000003 000003e8", "00000009 0000001c 0000000000000002 0000000000000003 00000001 70656e64696e6700", [2, 1, 0]),
+    Ask(2, "0000000000000003 000003e8", "00000009 0000001c 8000000000000002 0000000000000003 00000001 70656e64696e6700", [2, 1, 0]),
     Permit(3, true),
-    Ask(4, "ffffffffffffffff", "00000009 0000001c 0000000000000004 ffffffffffffffff 00000001 70656e64696e6700", [3, 1, 0]),
+    Ask(4, "ffffffffffffffff", "00000009 0000001c 8000000000000004 ffffffffffffffff 00000001 70656e64696e6700", [3, 1, 0]),
     // Denied is tested before pending.
     Permit(2, false),
-    Ask(2, "0000000000000005 00000000", "00000009 0000001b 0000000000000002 0000000000000005 00000001 64656e69656400", [2, 1, 0]),
+    Ask(2, "0000000000000005 00000000", "00000009 0000001b 8000000000000002 0000000000000005 00000001 64656e69656400", [2, 1, 0]),
     // A wrong length before both.
-    Ask(2, "0000000000000005", "00000009 00000014 0000000000000002 0000000000000005 00000002", [2, 2, 0]),
-    Ask(4, "0000000000000005 000003e8", "00000009 00000014 0000000000000004 0000000000000005 00000002", [3, 2, 0]),
+    Ask(2, "0000000000000005", "00000009 00000014 8000000000000002 0000000000000005 00000002", [2, 2, 0]),
+    Ask(4, "0000000000000005 000003e8", "00000009 00000014 8000000000000004 0000000000000005 00000002", [3, 2, 0]),
     // Under 8 bytes the number is 0.
-    Ask(2, "05060708090a0b", "00000009 00000014 0000000000000002 0000000000000000 00000002", [2, 2, 0]),
-    Ask(4, "", "00000009 00000014 0000000000000004 0000000000000000 00000002", [3, 2, 0]),
+    Ask(2, "05060708090a0b", "00000009 00000014 8000000000000002 0000000000000000 00000002", [2, 2, 0]),
+    Ask(4, "", "00000009 00000014 8000000000000004 0000000000000000 00000002", [3, 2, 0]),
     // The order is as it was left, though its service is denied now.
     Take(Order::Shutdown { delay: 1_000 }),
     // Panic, and a request of each while it waits.
-    Ask(4, "0000000000000000", "00000009 00000014 0000000000000004 0000000000000000 00000000", [3, 0, 0]),
-    Ask(4, "0000000000000001", "00000009 0000001c 0000000000000004 0000000000000001 00000001 70656e64696e6700", [3, 1, 0]),
+    Ask(4, "0000000000000000", "00000009 00000014 8000000000000004 0000000000000000 00000000", [3, 0, 0]),
+    Ask(4, "0000000000000001", "00000009 0000001c 8000000000000004 0000000000000001 00000001 70656e64696e6700", [3, 1, 0]),
     Permit(2, true),
-    Ask(2, "0000000000000001 00000001", "00000009 0000001c 0000000000000002 0000000000000001 00000001 70656e64696e6700", [2, 1, 0]),
+    Ask(2, "0000000000000001 00000001", "00000009 0000001c 8000000000000002 0000000000000001 00000001 70656e64696e6700", [2, 1, 0]),
     Take(Order::Panic),
     // The shortest and the longest delay.
-    Ask(2, "0000000000000007 00000000", "00000009 00000014 0000000000000002 0000000000000007 00000000", [2, 0, 0]),
+    Ask(2, "0000000000000007 00000000", "00000009 00000014 8000000000000002 0000000000000007 00000000", [2, 0, 0]),
     Take(Order::Shutdown { delay: 0 }),
-    Ask(2, "0000000000000007 ffffffff", "00000009 00000014 0000000000000002 0000000000000007 00000000", [2, 0, 4_294_967_295]),
+    Ask(2, "0000000000000007 ffffffff", "00000009 00000014 8000000000000002 0000000000000007 00000000", [2, 0, 4_294_967_295]),
     Take(Order::Shutdown { delay: 4_294_967_295 }),
     Permit(3, false),
 ];
@@ -94,7 +96,7 @@ fn replies_by_hand() {
                 assert_eq!(bench.take(), Err(6));
             }
             Ask(handle, data, reply, [service, result, delay]) => {
-                let message = build::data(handle, &hex(data));
+                let message = build::data(build::ours(handle), &hex(data));
                 assert_eq!(show(&bench.state, 1, &message), b"");
                 let got = bench.receive(1, &message);
                 assert_eq!(got, Ok(hex(reply)), "step {number}");
@@ -114,7 +116,8 @@ fn every_length() {
         &[0x77; 4_088 - 8], // the longest data that there is
     ];
     let long = long.concat();
-    for (handle, service, right) in [(2, 2, 12), (4, 3, 8)] {
+    for (number, service, right) in [(2, 2, 12), (4, 3, 8)] {
+        let handle = build::ours(number);
         for permitted in [false, true] {
             for length in (0..=40).chain([4_088]).filter(|length| *length != right) {
                 let mut bench = with_orders();
@@ -133,7 +136,8 @@ fn every_length() {
 
 #[test]
 fn orders_stay_when_services_end() {
-    for (handle, data) in [(2, build::shutdown(1, 5)), (4, build::panic(1))] {
+    for (number, data) in [(2, build::shutdown(1, 5)), (4, build::panic(1))] {
+        let handle = build::ours(number);
         let mut bench = with_orders();
         bench.permit(2, true).unwrap();
         bench.permit(3, true).unwrap();
@@ -141,7 +145,9 @@ fn orders_stay_when_services_end() {
         let left = bench.state.orders;
         assert!(left.waiting.is_some());
         bench.withdraw(1, 2).unwrap();
-        bench.receive(1, &build::of_handle(6, 4)).unwrap();
+        bench
+            .receive(1, &build::of_handle(6, build::ours(4)))
+            .unwrap();
         bench.receive(1, &build::init_req(1, 0)).unwrap();
         bench.receive(1, &build::init_req(2, 0)).unwrap();
         bench.close(1).unwrap();
@@ -161,7 +167,7 @@ fn one_order_for_all_channels() {
     let mut bench = with_orders();
     bench.receive(3, &build::init_req(1, 0)).unwrap();
     bench.offer(3, 3).unwrap();
-    let elsewhere = bench.state.last;
+    let elsewhere = build::ours(bench.state.last);
     bench.receive(3, &build::reg_ack(elsewhere, 0)).unwrap();
     bench.permit(2, true).unwrap();
     bench.permit(3, true).unwrap();
@@ -170,9 +176,9 @@ fn one_order_for_all_channels() {
     assert_eq!(reply[16..], hex("0000000000000009 00000000"));
     let first = 21 << 27 | 3 << 25 | 3 << 23;
     assert_eq!(last_entry(&bench), (first, 0));
-    let reply = bench.receive(1, &build::data(2, &build::shutdown(8, 1)));
+    let reply = bench.receive(1, &build::data(build::ours(2), &build::shutdown(8, 1)));
     let pending = hex("0000000000000008 00000001 70656e64696e6700");
-    assert_eq!(reply, Ok(build::data(2, &pending)));
+    assert_eq!(reply, Ok(build::data(build::ours(2), &pending)));
     // The handle of channel 3 is not one of channel 1.
     assert_eq!(bench.receive(1, &request), Ok(build::nack(elsewhere, 3)));
     assert_eq!(bench.take(), Ok(Order::Panic));
@@ -184,8 +190,8 @@ fn offered_is_not_registered() {
     bench.receive(0, &build::init_req(1, 0)).unwrap();
     bench.offer(0, 3).unwrap();
     bench.permit(3, true).unwrap();
-    let reply = bench.receive(0, &build::data(2, &build::panic(1)));
-    assert_eq!(reply, Ok(build::nack(2, 3)));
+    let reply = bench.receive(0, &build::data(build::ours(2), &build::panic(1)));
+    assert_eq!(reply, Ok(build::nack(build::ours(2), 3)));
     assert_eq!(bench.take(), Err(6));
 }
 
@@ -194,7 +200,7 @@ fn a_removal_and_devices_are_left_alone() {
     let mut bench = Bench::with_memory();
     bench.unconfigure(&[A]);
     bench.offer(2, 2).unwrap();
-    let handle = bench.state.last;
+    let handle = build::ours(bench.state.last);
     bench.receive(2, &build::reg_ack(handle, 0)).unwrap();
     bench.permit(2, true).unwrap();
     let mut expected = bench.clone();

@@ -8,6 +8,9 @@ use independent::reader::{output, read};
 use independent::saved::write_long;
 use std::io::{self, Read};
 
+/// The top bit of our handles.
+const OURS: u64 = 1 << 63;
+
 /// The fields of an entry after its number: kind, channel, service, record,
 /// code, count, w.
 type Entry = [u64; 7];
@@ -56,7 +59,7 @@ fn is_good(before: &[Entry], last: Entry) -> bool {
 const DAY: [[u64; 2]; 7] = [
     [0x0000_0001_0C00_0000, 0],
     [0x0000_0002_2400_0000, 0],
-    [0x0000_0003_2C00_0000, 2],
+    [0x0000_0003_2C00_0000, OURS | 2],
     [0x0000_0004_6400_0001, 9],
     [0x0000_0005_7400_0003, 0],
     [0x0000_0006_7C00_0001, 0],
@@ -66,18 +69,22 @@ const DAY: [[u64; 2]; 7] = [
 #[test]
 fn the_day() {
     let expected = "channel 0 closed\nchannel 1 closed\nchannel 2 ready\n\
-                    service 0 registered 2 0\nchannel 3 closed\nblock 0 unconfigured\n\
+                    service 0 registered 9223372036854775810 0\nchannel 3 closed\nblock 0 unconfigured\n\
                     block 1 configured\nentries 7\n";
     assert_eq!(print(&file(&BLOCK_LIST[..10], &DAY)), expected);
 }
 
 #[test]
 fn the_day_entry_by_entry() {
-    let registered = "ready\nservice 0 registered 2 0";
+    let registered = "ready\nservice 0 registered 9223372036854775810 0";
     for (count, channel, block) in [
         (0, "closed", "configured"),
         (1, "ready", "configured"),
-        (2, "ready\nservice 0 offered 2", "configured"),
+        (
+            2,
+            "ready\nservice 0 offered 9223372036854775810",
+            "configured",
+        ),
         (3, registered, "configured"),
         (4, registered, "configured"),
         (5, registered, "configured"),
@@ -183,11 +190,11 @@ fn numbers_from_1_without_gap() {
 const READY: Entry = [1, 2, 0, 0, 0, 0, 0];
 const CLOSED: Entry = [2, 2, 0, 0, 0, 0, 0];
 const OFFER: Entry = [4, 2, 0, 0, 0, 0, 0];
-const REGISTER: Entry = [5, 2, 0, 0, 0, 0, 2];
+const REGISTER: Entry = [5, 2, 0, 0, 0, 0, OURS | 2];
 const BEGIN: Entry = [12, 2, 0, 0, 0, 2, 9];
 /// `dr-vio`, offered as entry 4 and registered.
 const OFFER_1: Entry = [4, 2, 1, 0, 0, 0, 0];
-const REGISTER_1: Entry = [5, 2, 1, 0, 0, 0, 4];
+const REGISTER_1: Entry = [5, 2, 1, 0, 0, 0, OURS | 4];
 
 const MEMORY: [Entry; 3] = [READY, OFFER, REGISTER];
 const VIO: [Entry; 5] = [READY, OFFER, REGISTER, OFFER_1, REGISTER_1];
@@ -201,7 +208,7 @@ const KINDS: [(&[Entry], Entry, &str); 25] = [
     (&MEMORY, [2, 2, 0, 0, 0, 0, 1], "cw"),
     (&[], [3, 2, 0, 0, 0, 3, 0], "cn"),
     (&MEMORY, OFFER_1, "cs"),
-    (&[READY, OFFER], [5, 2, 0, 0, 0, 0, 2], "csnw"),
+    (&[READY, OFFER], REGISTER, "csnw"),
     (&[READY, OFFER], [6, 2, 0, 0, 0, 0, 0], "cs"),
     (&MEMORY, [7, 2, 0, 0, 0, 0, 0], "cs"),
     (&VIO, [8, 2, 1, 0, 0, 0, 0], "cs"),
@@ -263,6 +270,24 @@ fn kinds_that_show_nothing() {
 }
 
 #[test]
+fn the_peers_handles() {
+    // Neither a registration nor its end is shown or needed: w is no handle of
+    // ours, whatever it is.
+    let peer = [22, 2, 0, 3, 0, 1, 77];
+    for w in [77, 2, OURS | 2, u64::MAX] {
+        assert!(is_good(&MEMORY, [22, 2, 0, 3, 0, 1, w]));
+        assert!(is_good(&MEMORY, [23, 2, 0, 0, 0, 0, w]));
+    }
+    let registered = [&MEMORY[..], &[peer]].concat();
+    assert!(is_good(&registered, peer));
+    assert!(is_good(&registered, [9, 2, 0, 0, 0, 0, 77]));
+    assert!(!is_good(&registered, [9, 2, 0, 0, 0, 0, OURS | 2]));
+    assert!(is_good(&registered, [9, 2, 0, 0, 0, 0, 2]));
+    assert!(!is_good(&[READY, OFFER, peer], [5, 2, 0, 0, 0, 0, 77]));
+    assert!(is_good(&[READY, OFFER, peer], REGISTER));
+}
+
+#[test]
 fn a_ready_channel() {
     for (before, entry, _) in &KINDS {
         let needs = matches!(entry[0], 4..=13 | 17);
@@ -285,7 +310,7 @@ fn kind_10_names_its_service() {
     assert!(is_good(&VIO, answered(0)) && is_good(&VIO, answered(1)));
     assert!(!is_good(&VIO, answered(2)) && !is_good(&VIO, answered(3)));
     assert!(!is_good(&VIO[..4], answered(1)) && !is_good(&MEMORY, answered(1)));
-    let shutdown = [READY, [4, 2, 2, 0, 0, 0, 0], [5, 2, 2, 0, 0, 0, 2]];
+    let shutdown = [READY, [4, 2, 2, 0, 0, 0, 0], [5, 2, 2, 0, 0, 0, OURS | 2]];
     assert!(is_good(&shutdown, answered(2)) && !is_good(&shutdown, answered(0)));
 }
 
@@ -297,11 +322,13 @@ fn services() {
     assert!(!is_good(&MEMORY, OFFER));
     assert!(is_good(&[READY, OFFER, [7, 2, 0, 0, 0, 0, 0]], OFFER));
     // 5: offered, under that handle.
-    for handle in [1, 3, 0, 2 | 1 << 32, 2 << 32] {
-        assert!(!is_good(&offered, [5, 2, 0, 0, 0, 0, handle]));
+    for number in [1, 3, 0, 2 | 1 << 32, 2 << 32] {
+        assert!(!is_good(&offered, [5, 2, 0, 0, 0, 0, OURS | number]));
+        assert!(!is_good(&offered, [5, 2, 0, 0, 0, 0, number]));
     }
+    assert!(!is_good(&offered, [5, 2, 0, 0, 0, 0, 2]));
     assert!(!is_good(&MEMORY, REGISTER));
-    assert!(!is_good(&offered, [5, 2, 1, 0, 0, 0, 2]));
+    assert!(!is_good(&offered, [5, 2, 1, 0, 0, 0, OURS | 2]));
     assert!(!is_good(&[READY], [5, 2, 0, 0, 0, 0, 0]));
     // 6: offered; 7: live; 8: registered.
     let ends = |kind| [kind, 2, 0, 0, 0, 0, 0];
@@ -318,21 +345,26 @@ fn services() {
         assert!(is_good(&REMOVAL, entry));
         assert!(!is_good(&kept, entry));
         assert!(!is_good(&[&kept[..], &[OFFER]].concat(), entry));
-        assert!(!is_good(&[READY, OFFER_1, [5, 2, 1, 0, 0, 0, 2]], entry));
+        assert!(!is_good(
+            &[READY, OFFER_1, [5, 2, 1, 0, 0, 0, OURS | 2]],
+            entry
+        ));
     }
     // 9: w not registered there.
     for (handle, good) in [
-        (2, false),
-        (4, false),
-        (3, true),
-        (2 | 1 << 32, true),
+        (OURS | 2, false),
+        (OURS | 4, false),
+        (OURS | 3, true),
+        (OURS | 2 | 1 << 32, true),
+        (OURS, true),
+        (2, true),
         (0, true),
     ] {
         assert_eq!(is_good(&VIO, [9, 2, 0, 0, 0, 0, handle]), good);
     }
-    assert!(is_good(&offered, [9, 2, 0, 0, 0, 0, 2]));
+    assert!(is_good(&offered, [9, 2, 0, 0, 0, 0, OURS | 2]));
     let other = [READY, OFFER, REGISTER, [1, 3, 0, 0, 0, 0, 0]];
-    assert!(is_good(&other, [9, 3, 0, 0, 0, 0, 2]));
+    assert!(is_good(&other, [9, 3, 0, 0, 0, 0, OURS | 2]));
 }
 
 #[test]
@@ -445,13 +477,14 @@ fn registered_and_offered_lines() {
         READY,
         [4, 2, 3, 0, 0, 0, 0],
         [4, 2, 0, 0, 0, 0, 0],
-        [5, 2, 3, 0, 0, 0xffff, 2],
+        [5, 2, 3, 0, 0, 0xffff, OURS | 2],
         [1, 0, 0, 0, 0, 0, 0],
         [4, 0, 1, 0, 0, 0, 0],
         [2, 3, 0, 0, 0, 0, 1],
     ];
-    let expected = "channel 0 ready\nservice 1 offered 6\nchannel 1 closed\nchannel 2 ready\n\
-                    service 0 offered 3\nservice 3 registered 2 65535\nchannel 3 closed\n";
+    let expected = "channel 0 ready\nservice 1 offered 9223372036854775814\nchannel 1 closed\nchannel 2 ready\n\
+                    service 0 offered 9223372036854775811\n\
+                    service 3 registered 9223372036854775810 65535\nchannel 3 closed\n";
     assert!(print_entries(&entries).starts_with(expected));
     // INIT_REQ on a ready channel leaves its services idle.
     let again = [&entries[..], &[READY]].concat();
@@ -484,12 +517,12 @@ impl Follower {
         String::from_utf8(answer).unwrap()
     }
 
-    /// The file is good and shows the state, except for its devices, orders and
-    /// removal.
+    /// The file is good and shows the state, except for its peers, devices,
+    /// orders and removal.
     fn check(&mut self) {
         let state = self.call(&Call::State);
         let lines = state.split_inclusive('\n');
-        let hidden = ["device", "permission", "order", "removal"];
+        let hidden = ["peer", "device", "permission", "order", "removal"];
         let shown = |line: &&str| !hidden.iter().any(|name| line.starts_with(name));
         let expected: String = lines.filter(shown).collect();
         assert_eq!(print(&file(&self.words, &self.entries)), expected);

@@ -5,12 +5,13 @@
 use independent::generate::generate;
 use independent::lines::{Call, Host, Line};
 use independent::wire::{self, Message};
-use independent::{setup, Channel, Order, Orders, Service, State};
+use independent::{build, setup, Channel, Order, Orders, Peers, Service, State};
 
 /// What reading gives: 01's rules, entry by entry.
 #[derive(Debug, PartialEq)]
 struct Reading {
     channels: [Channel; 4],
+    peers: [Peers; 4],
     configured: Vec<bool>,
     devices: Vec<bool>,
     orders: Orders,
@@ -25,6 +26,7 @@ impl Reading {
         let devices = state.devices.listed().iter();
         Reading {
             channels: state.channels,
+            peers: state.peers,
             configured: blocks.map(|block| block.configured).collect(),
             devices: devices.map(|device| device.configured).collect(),
             orders: state.orders,
@@ -41,12 +43,16 @@ impl Reading {
     fn entry(&mut self, first: u64, second: u64) {
         let number = first >> 32;
         let channel = &mut self.channels[(first >> 25 & 3) as usize];
+        let peers = &mut self.peers[(first >> 25 & 3) as usize];
         let service = &mut channel.services[(first >> 23 & 3) as usize];
         let (code, count) = (first >> 16 & 7, first & 0xffff);
         match first >> 27 & 31 {
-            1 => *channel = Channel::READY,
-            2 | 3 => *channel = Channel::CLOSED,
-            4 => *service = Service::Offered { handle: number },
+            1 => (*channel, *peers) = (Channel::READY, Peers::default()),
+            2 | 3 => (*channel, *peers) = (Channel::CLOSED, Peers::default()),
+            4 => {
+                let handle = build::ours(number);
+                *service = Service::Offered { handle };
+            }
             5 => {
                 let (handle, minor) = (second, count as u16);
                 *service = Service::Registered { handle, minor };
@@ -62,6 +68,9 @@ impl Reading {
             16 => self.removal = None,
             18 => self.devices[count as usize] = second == 1,
             kind @ 19..=21 => self.order_entry(kind, first >> 23 & 3, code, second),
+            22 => peers.add((first >> 19 & 15) as usize, second, count as u16),
+            23 => peers.remove(peers.find(second).unwrap()),
+            24 => assert_eq!(second, 0),
             kind => assert!([9, 10, 17].contains(&kind)),
         }
     }
@@ -102,13 +111,13 @@ struct Follower {
 
 impl Follower {
     fn call(&mut self, call: &Call) {
-        let shown = self.reading.channels;
-        let devices = self.host.devices.clone();
+        let shown = (self.reading.channels, self.reading.peers);
+        let (devices, ids) = (self.host.devices.clone(), self.host.ids.clone());
         let mut answer = Vec::new();
         self.host.perform(call, &mut answer);
         let answer = String::from_utf8(answer).unwrap();
         if let Call::Setup(words) = call {
-            self.reading = Reading::of(&setup(words, &devices).unwrap_or_default());
+            self.reading = Reading::of(&setup(words, &devices, &ids).unwrap_or_default());
             (self.read, self.drained) = (0, 0);
         }
         for line in answer.lines().filter(|line| line.starts_with("entry ")) {
@@ -129,7 +138,7 @@ impl Follower {
     }
 
     /// Data reaches a service when its handle was registered there.
-    fn reached(&self, call: &Call, first: u64, shown: &[Channel; 4]) {
+    fn reached(&self, call: &Call, first: u64, (channels, peers): &([Channel; 4], [Peers; 4])) {
         let (kind, service) = (first >> 27 & 31, first >> 23 & 3);
         let Call::Receive(channel, message) = call else {
             return;
@@ -137,10 +146,13 @@ impl Follower {
         let Some(Message::Data { handle, .. }) = wire::parse(message) else {
             return;
         };
-        match shown[*channel as usize].registered(handle) {
+        let at = *channel as usize;
+        let of_peer = peers[at].find(handle).is_some();
+        match channels[at].registered(handle) {
             Some(0) => assert!((10..=13).contains(&kind) && service == 0),
             Some(1) => assert!([(18, 0), (10, 1)].contains(&(kind, service))),
             Some(own) => assert_eq!((kind, service), (21, own as u64)),
+            None if of_peer => assert_eq!(kind, 24),
             None => assert!(kind == 9 || kind == 2),
         }
     }

@@ -114,7 +114,7 @@ fn the_last_number_is_used_once() {
     let mut bench = with_removal();
     bench.state.last = 4_294_967_294;
     let offered = bench.offer(2, 3).unwrap();
-    assert_eq!(offered[8..16], 4_294_967_295u64.to_be_bytes());
+    assert_eq!(offered[8..16], build::ours(4_294_967_295).to_be_bytes());
     assert_eq!(
         bench.journal[124],
         4_294_967_295 << 32 | 4 << 27 | 2 << 25 | 3 << 23
@@ -177,20 +177,20 @@ const BAD: [&[u64]; 18] = [
 #[test]
 fn block_lists() {
     for list in GOOD {
-        assert!(setup(list, &[]).is_ok(), "{list:?}");
+        assert!(setup(list, &[], &[]).is_ok(), "{list:?}");
     }
     for list in BAD {
-        assert_eq!(setup(list, &[]), Err(7), "{list:?}");
+        assert_eq!(setup(list, &[], &[]), Err(7), "{list:?}");
     }
     let many =
         |count: u64| -> Vec<u64> { (0..count).flat_map(|at| [at * 8192, 1, 0, 0, 1]).collect() };
-    assert!(setup(&many(16), &[]).is_ok());
-    assert_eq!(setup(&many(17), &[]), Err(7));
+    assert!(setup(&many(16), &[], &[]).is_ok());
+    assert_eq!(setup(&many(17), &[], &[]), Err(7));
 }
 
 #[test]
 fn setup_leaves_everything_idle() {
-    let state = setup(&BLOCK_LIST, &[]).unwrap();
+    let state = setup(&BLOCK_LIST, &[], &[]).unwrap();
     assert_eq!(state.channels, [Channel::CLOSED; 4]);
     assert_eq!(
         (state.removal, state.last, state.held, state.blocks.count),
@@ -207,7 +207,7 @@ fn removal(state: &mut State) -> &mut Removal {
     state.removal.as_mut().unwrap()
 }
 
-const SPOILS: [Spoil; 33] = [
+const SPOILS: [Spoil; 37] = [
     |state| state.blocks.count = 17,
     |state| state.blocks.count = usize::MAX,
     |state| state.blocks.list[3].base += 1,
@@ -223,27 +223,47 @@ const SPOILS: [Spoil; 33] = [
     |state| state.blocks.list[3].first = 1,
     |state| state.blocks.list[2].permanent = 1,
     |state| state.channels[2].ready = false,
-    |state| state.channels[0].services[3] = Service::Offered { handle: 1 },
-    |state| state.channels[2].services[3] = Service::Offered { handle: 2 },
+    |state| {
+        state.channels[0].services[3] = Service::Offered {
+            handle: build::ours(1),
+        }
+    },
+    |state| {
+        state.channels[2].services[3] = Service::Offered {
+            handle: build::ours(2),
+        }
+    },
     |state| {
         state.channels[0] = Channel::READY;
         state.channels[0].services[1] = Service::Registered {
-            handle: 2,
+            handle: build::ours(2),
             minor: 0,
         };
     },
-    |state| state.channels[2].services[0] = Service::Offered { handle: 0 },
-    |state| state.channels[2].services[0] = Service::Offered { handle: 6 },
     |state| {
         state.channels[2].services[0] = Service::Offered {
-            handle: 1 << 32 | 2,
+            handle: build::ours(0),
         }
     },
+    |state| {
+        state.channels[2].services[0] = Service::Offered {
+            handle: build::ours(6),
+        }
+    },
+    |state| {
+        state.channels[2].services[0] = Service::Offered {
+            handle: build::ours(1 << 32 | 2),
+        }
+    },
+    |state| state.channels[2].services[0] = Service::Offered { handle: 2 },
+    |state| removal(state).handle = 2,
+    |state| removal(state).handle = 0,
+    |state| removal(state).handle = build::ours(1 << 32),
     |state| state.last = 4_294_967_296,
     |state| (state.last, state.held) = (1 << 40, 65),
     |state| state.held = 6,
     |state| removal(state).channel = 4,
-    |state| removal(state).handle = 6,
+    |state| removal(state).handle = build::ours(6),
     |state| removal(state).count = 0,
     |state| (removal(state).count, removal(state).collected) = (17, 0),
     |state| (removal(state).position, removal(state).collected) = (3, 0),
@@ -255,11 +275,11 @@ const SPOILS: [Spoil; 33] = [
 
 #[test]
 fn unsound_states() {
-    let message = build::data(3, b"abc");
+    let message = build::data(build::ours(3), b"abc");
     for (number, spoil) in SPOILS.iter().enumerate() {
         let mut bench = with_removal();
         bench.state.channels[2].services[2] = Service::Registered {
-            handle: 3,
+            handle: build::ours(3),
             minor: 0,
         };
         spoil(&mut bench.state);
@@ -293,7 +313,7 @@ fn more_unsound_removals() {
 #[test]
 fn made_states_that_are_sound() {
     let changes: [Spoil; 12] = [
-        |state| removal(state).handle = 0,
+        |state| removal(state).handle = build::ours(0),
         |state| removal(state).cancelled = true,
         |state| (removal(state).position, removal(state).collected) = (2, 0),
         |state| (removal(state).records[0], removal(state).collected) = (B, 1),
@@ -310,7 +330,7 @@ fn made_states_that_are_sound() {
         |state| state.highest = [None; 4],
         |state| {
             state.channels[2].services[0] = Service::Registered {
-                handle: 5,
+                handle: build::ours(5),
                 minor: 9,
             }
         },

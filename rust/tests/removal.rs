@@ -152,7 +152,11 @@ fn a_removal_goes_on_without_its_channel() {
         |bench| assert!(bench.receive(2, &build::init_req(1, 0)).is_ok()),
         |bench| assert!(bench.receive(2, &build::init_req(2, 0)).is_ok()),
         |bench| assert!(bench.withdraw(2, 0).is_ok()),
-        |bench| assert!(bench.receive(2, &build::of_handle(6, 2)).is_ok()),
+        |bench| {
+            assert!(bench
+                .receive(2, &build::of_handle(6, build::ours(2)))
+                .is_ok())
+        },
     ];
     for disturb in disturbances {
         let mut bench = Bench::with_memory();
@@ -163,7 +167,7 @@ fn a_removal_goes_on_without_its_channel() {
         // A newer handle on the same channel and service gets no late reply.
         bench.receive(2, &build::init_req(1, 0)).unwrap();
         bench.offer(2, 0).unwrap();
-        let newer = bench.state.last;
+        let newer = build::ours(bench.state.last);
         bench.receive(2, &build::reg_ack(newer, 0)).unwrap();
         assert_eq!(bench.work(1), Ok((0, vec![])));
         assert_eq!(bench.last_entry(), (16, 0, 0, 0, 9));

@@ -120,14 +120,15 @@ fn long_files() {
         assert_eq!(bytes.len() as u64, 8 + 15 * 8 + entries * 16);
         assert!(output_of(&bytes).ends_with(&format!("\nentries {entries}\n")));
     }
-    // Every kind of 01 but 8, which is not written any more, and those of orders.
+    // Every kind of 01 but 8, which is not written any more, and those of orders
+    // and of the peer.
     let mut bytes = Vec::new();
     write_long(200, &mut bytes).unwrap();
     let entries = bytes[8 + 15 * 8..].chunks_exact(16);
     let mut kinds: Vec<u8> = entries.map(|entry| entry[4] >> 3).collect();
     kinds.sort();
     kinds.dedup();
-    let written = (1..=21).filter(|kind| ![8, 18].contains(kind));
+    let written = (1..=24).filter(|kind| ![8, 18].contains(kind));
     assert_eq!(kinds, written.collect::<Vec<u8>>());
 }
 

@@ -103,7 +103,7 @@ impl Case {
             return *ours == self.words;
         }
         let exact = match &self.call {
-            Call::Setup(_, devices) => {
+            Call::Setup([_, devices, _]) => {
                 let listed = &devices[..theirs.devices.count * DEVICE_WORDS];
                 devices_in(ours)[1..].starts_with(listed)
             }

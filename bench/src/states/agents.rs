@@ -69,7 +69,9 @@ pub fn call_proved(state: &mut Words, call: &Call, lent: &mut Lent) -> Answer {
             answer(drained.refusal, 0, drained.entries as u64)
         }
         Call::Show(channel, message) => answer(0, proved::show(state, *channel, message), 0),
-        Call::Setup(blocks, devices) => answer(proved::setup(state, blocks, devices), 0, 0),
+        Call::Setup([blocks, devices, ids]) => {
+            answer(proved::setup(state, blocks, devices, ids), 0, 0)
+        }
         Call::Permit(service, permitted) => {
             proved::permit(state, *service, *permitted, journal, out).into()
         }
@@ -104,8 +106,8 @@ pub fn call_independent(state: &mut State, call: &Call, lent: &mut Lent) -> Answ
         Call::Show(channel, message) => {
             answer(0, independent::show(state, *channel, message).len(), 0)
         }
-        Call::Setup(blocks, devices) => {
-            let made = independent::setup(blocks, devices);
+        Call::Setup([blocks, devices, ids]) => {
+            let made = independent::setup(blocks, devices, ids);
             *state = made.unwrap_or_default();
             answer(made.err().unwrap_or(0), 0, 0)
         }

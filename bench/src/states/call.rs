@@ -14,7 +14,8 @@ pub enum Call {
     Work(u64),
     Drain,
     Show(u64, Vec<u8>),
-    Setup(Vec<u64>, Vec<u64>),
+    /// Blocks, devices and ids.
+    Setup([Vec<u64>; 3]),
     /// Any number but 0 permits.
     Permit(u64, u64),
     Take,
@@ -56,7 +57,7 @@ impl Call {
     pub fn random(random: &mut Random, state: &State) -> Call {
         let channel = place(random);
         let service = place(random);
-        match random.below(34) {
+        match random.below(39) {
             26..=29 => {
                 let service = random.between(2, 3) as usize;
                 let channel = channel_of(random, state, service).unwrap_or(channel);
@@ -64,14 +65,15 @@ impl Call {
                 Call::Receive(channel, message)
             }
             30 | 31 => permit(random),
-            32.. => Call::Take,
+            32 | 33 => Call::Take,
             22..=25 => {
                 let channel = channel_of(random, state, 1).unwrap_or(channel);
                 Call::Receive(channel, message::for_device(random, state, channel))
             }
-            20 | 21 => {
-                let (blocks, devices) = lists::any(random);
-                Call::Setup(blocks, devices)
+            20 | 21 => Call::Setup(lists::any(random)),
+            34..=38 => {
+                let channel = channel_with_peers(random, state).unwrap_or(channel);
+                Call::Receive(channel, message::for_peer(random, state, channel))
             }
             0..=8 => {
                 let channel = channel_of(random, state, 0).unwrap_or(channel);
@@ -82,7 +84,10 @@ impl Call {
             13 => Call::Close(channel),
             14..=16 => Call::Work(budget(random, state)),
             17 => Call::Drain,
-            _ => Call::Show(channel, message::for_show(random, state, channel)),
+            _ => {
+                let channel = channel_with_peers(random, state).unwrap_or(channel);
+                Call::Show(channel, message::for_show(random, state, channel))
+            }
         }
     }
 }
@@ -107,6 +112,20 @@ fn channel_of(random: &mut Random, state: &State, service: usize) -> Option<u64>
     let live = |channel: &u64| state.channels[*channel as usize].services[service].handle();
     let channels: Vec<u64> = (0..4).filter(|channel| live(channel).is_some()).collect();
     (!channels.is_empty() && !random.once_in(3)).then(|| random.pick(&channels))
+}
+
+/// Mostly a channel that is ready and has registrations of the peer, or else is
+/// ready, if there is one.
+fn channel_with_peers(random: &mut Random, state: &State) -> Option<u64> {
+    let channels = 0..4u64;
+    let ready = channels.filter(|channel| state.channels[*channel as usize].ready);
+    let ready: Vec<u64> = ready.collect();
+    let with = ready.iter().copied();
+    let with = with.filter(|channel| state.peers[*channel as usize].count() > 0);
+    let with: Vec<u64> = with.collect();
+    let picked = random.pick_any(&with).filter(|_| !random.once_in(4));
+    let picked = picked.or_else(|| random.pick_any(&ready));
+    picked.filter(|_| !random.once_in(8))
 }
 
 /// A budget: beside its bounds, and beside what remains at the position.

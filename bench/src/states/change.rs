@@ -1,17 +1,19 @@
 //! Changes of one thing in a state to a boundary value or just past it.
 
 use super::make::{self, end_of};
-use super::{devices, orders};
+use super::{devices, orders, peers};
 use independent::block::{MAX_BLOCKS, MAX_END, MAX_PAGES, PAGE};
 use independent::generate::random::Random;
 use independent::removal::MAX_RECORDS;
-use independent::state::LAST_NUMBER;
+use independent::state::{LAST_NUMBER, TOP_BIT};
 use independent::{Block, Removal, Service, State};
 
 /// Changes one thing; the state may stay sound.
 pub fn change(random: &mut Random, state: &mut State) {
-    match random.below(30) {
-        28.. => orders::change(random, &mut state.orders),
+    match random.below(42) {
+        30..=35 => peers::change_ids(random, &mut state.ids),
+        36.. => peers::change(random, state),
+        28 | 29 => orders::change(random, &mut state.orders),
         20..=27 => devices::change(random, &mut state.devices),
         0..=5 => block(random, state),
         6 => block_count(random, state),
@@ -145,14 +147,18 @@ fn swap_blocks(random: &mut Random, state: &mut State) {
 /// that of another.
 fn service(random: &mut Random, state: &mut State) {
     let last = state.last;
-    let other = random.pick_any(&make::live(state)).unwrap_or(last);
     let any = random.up_to(last);
+    let other = random.pick_any(&make::live(state));
+    let other = other.unwrap_or(TOP_BIT | any);
     let handle = random.pick(&[
         0,
-        1,
         any,
-        last,
-        last.wrapping_add(1),
+        TOP_BIT,
+        TOP_BIT | 1,
+        TOP_BIT | any,
+        TOP_BIT | last,
+        TOP_BIT | last.wrapping_add(1),
+        other ^ TOP_BIT,
         other,
         other,
         other,
@@ -167,8 +173,8 @@ fn service(random: &mut Random, state: &mut State) {
 }
 
 fn last(random: &mut Random, state: &mut State) {
-    let highest = make::live(state).into_iter().max().unwrap_or(0);
-    let of_removal = state.removal.map_or(0, |removal| removal.handle);
+    let highest = make::live(state).into_iter().max().unwrap_or(0) & !TOP_BIT;
+    let of_removal = state.removal.map_or(0, |removal| removal.handle) & !TOP_BIT;
     state.last = random.pick(&[
         0,
         highest,
@@ -197,7 +203,12 @@ fn removal(random: &mut Random, state: &mut State) {
     let past = state.last.wrapping_add(1);
     match random.below(8) {
         0 => removal.channel = random.pick(&[3, 4, 5, 1 << 32, u64::MAX]),
-        1 => removal.handle = random.pick(&[0, state.last, past, 1 << 32, u64::MAX]),
+        1 => {
+            let number = random.pick(&[0, state.last, past, 1 << 32, u64::MAX]);
+            let bare = [removal.handle ^ TOP_BIT, 0, number];
+            let bare = random.pick(&bare);
+            removal.handle = random.pick(&[TOP_BIT | number, TOP_BIT | number, bare]);
+        }
         2 => places(random, &mut removal),
         3 | 4 => {
             let pages = make::pages_at_position(state, &removal).unwrap_or(0);

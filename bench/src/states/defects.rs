@@ -1,10 +1,13 @@
-//! What breaks the rules of devices and orders, for the counts.
+//! What breaks the rules of devices, orders, ids, registrations and the top
+//! bit of handles, for the counts.
 
 use independent::device::{MAX_DEVICES, MAX_NAME};
-use independent::{Device, Devices, State};
+use independent::peer::{MAX_ID, MAX_IDS, MAX_PEERS};
+use independent::state::TOP_BIT;
+use independent::{Device, Devices, Id, Ids, Peers, Service, State};
 
 /// Every way to break the rules that the independent agent's form has.
-pub const DEFECTS: [&str; 9] = [
+pub const DEFECTS: [&str; 25] = [
     "33 devices",
     "more devices",
     "name of 0 bytes",
@@ -14,6 +17,22 @@ pub const DEFECTS: [&str; 9] = [
     "a byte after the name",
     "an id and name twice",
     "a delay past 32 bits",
+    "17 ids",
+    "more ids",
+    "an id of 0 bytes",
+    "an id of 33 bytes or more",
+    "an id without a zero at the end",
+    "an id with an inner zero",
+    "a byte after an id",
+    "an id twice",
+    "a registration on a closed channel",
+    "nine registrations",
+    "more registrations",
+    "a registration of an id that is not listed",
+    "a registration with the top bit",
+    "a registration's handle twice",
+    "a registration's minor above the list's",
+    "a handle of ours without the top bit",
 ];
 
 /// What is wrong with a device alone.
@@ -32,10 +51,84 @@ fn of_device(device: &Device) -> Option<&'static str> {
     }
 }
 
-/// The first thing that is wrong with devices, or else with orders.
+/// The first thing that is wrong with devices, or else with orders, ids,
+/// registrations, or handles.
 pub fn defect(state: &State) -> Option<&'static str> {
     let past = !state.orders.keep_rules();
-    of_devices(&state.devices).or(past.then_some(DEFECTS[8]))
+    let found = of_devices(&state.devices).or(past.then_some(DEFECTS[8]));
+    let found = found.or_else(|| of_ids(&state.ids));
+    found.or_else(|| {
+        let mut channels = state.channels.iter().zip(&state.peers);
+        let peers =
+            channels.find_map(|(channel, peers)| of_peers(peers, &state.ids, channel.ready));
+        peers.or_else(|| bare(state).then_some(DEFECTS[24]))
+    })
+}
+
+/// Whether a handle of a live service or of the removal lacks the top bit.
+fn bare(state: &State) -> bool {
+    let services = state.channels.iter().flat_map(|channel| &channel.services);
+    let handles = services.filter_map(Service::handle);
+    let mut handles = handles.chain(state.removal.map(|removal| removal.handle));
+    handles.any(|handle| handle & TOP_BIT == 0)
+}
+
+/// What is wrong with an id alone.
+fn of_id(id: &Id) -> Option<&'static str> {
+    let length = id.length;
+    if length == 0 || length > MAX_ID {
+        return Some(if length == 0 {
+            DEFECTS[11]
+        } else {
+            DEFECTS[12]
+        });
+    }
+    let bytes: Vec<u8> = id
+        .words
+        .iter()
+        .flat_map(|word| word.to_be_bytes())
+        .collect();
+    let (bytes, past) = bytes.split_at(length);
+    let past = &past[..length.next_multiple_of(8) - length];
+    match bytes.split_last() {
+        Some((0, before)) if before.contains(&0) => Some(DEFECTS[14]),
+        Some((0, _)) if past.iter().any(|byte| *byte != 0) => Some(DEFECTS[15]),
+        Some((0, _)) => None,
+        _ => Some(DEFECTS[13]),
+    }
+}
+
+fn of_ids(ids: &Ids) -> Option<&'static str> {
+    match ids.count {
+        ..=MAX_IDS => {}
+        17 => return Some(DEFECTS[9]),
+        _ => return Some(DEFECTS[10]),
+    }
+    let alone = ids.listed().iter().find_map(of_id);
+    alone.or_else(|| {
+        let bytes: Vec<Vec<u8>> = ids.listed().iter().map(Id::bytes).collect();
+        let twice = (0..bytes.len()).any(|at| bytes[..at].contains(&bytes[at]));
+        twice.then_some(DEFECTS[16])
+    })
+}
+
+/// What is wrong with the registrations of a channel.
+fn of_peers(peers: &Peers, ids: &Ids, ready: bool) -> Option<&'static str> {
+    let places: Vec<usize> = peers.places().collect();
+    let handles: Vec<u64> = places.iter().map(|place| peers.handles[*place]).collect();
+    let twice = (0..handles.len()).any(|at| handles[..at].contains(&handles[at]));
+    let above = |place: &usize| peers.minors[*place] > ids.list[*place].minor;
+    let tests = [
+        (!ready && !places.is_empty(), 17),
+        (peers.count() == MAX_PEERS + 1, 18),
+        (peers.count() > MAX_PEERS + 1, 19),
+        (places.iter().any(|place| *place >= ids.count), 20),
+        (handles.iter().any(|handle| handle & TOP_BIT != 0), 21),
+        (twice, 22),
+        (places.iter().any(above), 23),
+    ];
+    let found = tests.iter().find(|(found, _)| *found);
+    found.map(|(_, defect)| DEFECTS[*defect])
 }
 
 fn of_devices(devices: &Devices) -> Option<&'static str> {

@@ -1,15 +1,16 @@
 //! The lists of a setup: sound ones, and ones that break a rule or are not
-//! whole blocks or devices.
+//! whole blocks, devices or ids.
 
 use super::change::change;
-use super::make;
 use super::words::{fill_free, lists_of, words_of};
+use super::{make, peers};
 use independent::block::BLOCK_WORDS;
 use independent::device::DEVICE_WORDS;
 use independent::generate::random::Random;
+use independent::peer::ID_WORDS;
 
-/// A block list and a device list.
-pub fn any(random: &mut Random) -> (Vec<u64>, Vec<u64>) {
+/// A block list, a device list and an id list.
+pub fn any(random: &mut Random) -> [Vec<u64>; 3] {
     let mut state = make::sound(random);
     for _ in 0..random.pick(&[0, 0, 0, 0, 1, 1, 2]) {
         change(random, &mut state);
@@ -18,7 +19,7 @@ pub fn any(random: &mut Random) -> (Vec<u64>, Vec<u64>) {
     if random.once_in(2) {
         fill_free(&mut words, || random.next());
     }
-    let (mut blocks, mut devices) = lists_of(&words);
+    let [mut blocks, mut devices, mut ids] = lists_of(&words);
     if random.once_in(20) {
         cut(random, &mut blocks, BLOCK_WORDS);
     }
@@ -28,7 +29,31 @@ pub fn any(random: &mut Random) -> (Vec<u64>, Vec<u64>) {
         2 => more(random, &mut devices),
         _ => {}
     }
-    (blocks, devices)
+    match random.below(12) {
+        0 => cut(random, &mut ids, ID_WORDS),
+        1 => version(random, &mut ids),
+        2 => more_ids(random, &mut ids),
+        _ => {}
+    }
+    [blocks, devices, ids]
+}
+
+/// Gives an id a version past 16 bits.
+fn version(random: &mut Random, ids: &mut [u64]) {
+    let count = ids.len() / ID_WORDS;
+    if count > 0 {
+        let id = random.below(count as u64) as usize * ID_WORDS;
+        ids[id + random.pick(&[0, 1])] = peers::past_16_bits(random);
+    }
+}
+
+/// Adds ids up to 15, 16, 17 or 18.
+fn more_ids(random: &mut Random, ids: &mut Vec<u64>) {
+    let count = random.pick(&[15, 16, 17, 17, 18]);
+    while ids.len() < count * ID_WORDS {
+        let bytes = random.next() | 0x0101_0101_0101_0101;
+        ids.extend([1, 0, 8, bytes & !0xff, 0, 0, 0]);
+    }
 }
 
 /// Takes words away or adds some.

@@ -1,10 +1,10 @@
 //! Sound states.
 
-use super::{devices, orders};
+use super::{devices, orders, peers};
 use independent::block::{MAX_BLOCKS, MAX_END, MAX_PAGES, PAGE};
 use independent::generate::random::Random;
 use independent::removal::MAX_RECORDS;
-use independent::state::{CHANNELS, LAST_NUMBER, SLOTS};
+use independent::state::{CHANNELS, LAST_NUMBER, SLOTS, TOP_BIT};
 use independent::{Block, Blocks, Pair, Removal, Service, Settled, State};
 
 /// A sound state.
@@ -13,6 +13,7 @@ pub fn sound(random: &mut Random) -> State {
         blocks: blocks(random),
         devices: devices::sound(random),
         orders: orders::sound(random),
+        ids: peers::ids(random),
         last: last(random),
         ..State::default()
     };
@@ -20,6 +21,7 @@ pub fn sound(random: &mut Random) -> State {
     let held = random.pick(&[0, 1, any, any, any, 63, 64]);
     state.held = held.min(state.last);
     channels(random, &mut state);
+    peers::register(random, &mut state);
     state.removal = random.once_in(2).then(|| removal(random, &state));
     state.highest.fill_with(|| highest(random));
     state
@@ -41,7 +43,8 @@ fn last(random: &mut Random) -> u64 {
     }
 }
 
-/// Ready and closed channels; services with distinct handles.
+/// Ready and closed channels; services with distinct handles, which have the
+/// top bit.
 fn channels(random: &mut Random, state: &mut State) {
     let mut seen = Vec::new();
     let last = state.last;
@@ -49,8 +52,9 @@ fn channels(random: &mut Random, state: &mut State) {
         channel.ready = !random.once_in(4);
         for service in &mut channel.services {
             let any = random.up_to(last);
-            let handle = random.pick(&[any, any, any, any.min(20), 1, last]);
-            let live = channel.ready && (1..=last).contains(&handle) && !random.once_in(3);
+            let number = random.pick(&[any, any, any, any.min(20), 1, last]);
+            let live = channel.ready && (1..=last).contains(&number) && !random.once_in(3);
+            let handle = TOP_BIT | number;
             if live && !seen.contains(&handle) {
                 seen.push(handle);
                 *service = live_service(random, handle);
@@ -185,17 +189,18 @@ pub fn live(state: &State) -> Vec<u64> {
 /// A sound removal for a sound state.
 pub fn removal(random: &mut Random, state: &State) -> Removal {
     let channel = random.below(CHANNELS as u64);
-    let any = random.up_to(state.last);
-    let other = random.pick_any(&live(state)).unwrap_or(any).min(state.last);
+    let last = TOP_BIT | state.last;
+    let any = TOP_BIT | random.up_to(state.last);
+    let other = random.pick_any(&live(state)).unwrap_or(any).min(last);
     let own = state.channels[channel as usize].services[0].handle();
-    let own = own.unwrap_or(any).min(state.last);
+    let own = own.unwrap_or(any).min(last);
     let most = random.between(1, MAX_RECORDS as u64);
     let count = random.pick(&[1, 2, 3, most, most, 16]);
     let position = random.up_to(count);
     let position = random.pick(&[0, position, position, count]) as usize;
     let mut removal = Removal {
         channel,
-        handle: random.pick(&[own, own, own, own, other, any, 0, state.last]),
+        handle: random.pick(&[own, own, own, own, other, any, TOP_BIT, last]),
         request: random.next(),
         count: count as usize,
         records: [Pair::default(); MAX_RECORDS],

@@ -1,8 +1,8 @@
 //! Messages for a state, well and badly formed.
 
-use super::{devices, make, orders};
+use super::{devices, make, orders, peers};
 use independent::generate::random::Random;
-use independent::state::State;
+use independent::state::{State, TOP_BIT};
 use independent::{build, memory, wire, Service};
 
 /// A message of any type for `channel`.
@@ -11,7 +11,7 @@ pub fn any(random: &mut Random, state: &State, channel: u64) -> Vec<u8> {
     let minor = random.pick(&[0, 0, 1, 65_535]);
     let mut message = match random.below(20) {
         0 | 1 => build::init_req(random.pick(&[0, 1, 1, 1, 2, 65_535]), minor),
-        2 => build::reg_req(handle, 1, minor, random.pick(&[b"dr-mem\0", b"dr-\0em\0"])),
+        2 => peers::reg_req(random, state, channel),
         3 | 4 => build::reg_ack(handle, minor),
         5 => build::reg_nack(handle, 1, minor),
         6 | 7 => build::of_handle(wire::UNREG, handle),
@@ -54,13 +54,33 @@ pub fn for_order(random: &mut Random, state: &State, channel: u64, service: usiz
     message
 }
 
-/// Mostly DATA for service 1, 2 or 3 of `channel`.
+/// What the peer sends about its own services on `channel`.
+pub fn for_peer(random: &mut Random, state: &State, channel: u64) -> Vec<u8> {
+    let handle = match peers::handle(random, state, channel) {
+        Some(handle) if !random.once_in(6) => handle,
+        _ => handle(random, state, channel),
+    };
+    let mut message = match random.below(12) {
+        0..=5 => peers::reg_req(random, state, channel),
+        6 | 7 => build::of_handle(wire::UNREG, handle),
+        8 => build::reg_ack(handle, 0),
+        9 => build::reg_nack(handle, 1, 0),
+        _ => data(random, handle),
+    };
+    if random.once_in(16) {
+        spoil(random, &mut message);
+    }
+    message
+}
+
+/// Mostly DATA for service 1, 2 or 3 of `channel`, or under a handle of the peer.
 pub fn for_show(random: &mut Random, state: &State, channel: u64) -> Vec<u8> {
     if random.once_in(4) {
         return any(random, state, channel);
     }
     let service = random.between(1, 3) as usize;
-    let own = service_handle(state, channel, service);
+    let of_peer = peers::handle(random, state, channel).filter(|_| !random.once_in(3));
+    let own = of_peer.or(service_handle(state, channel, service));
     let handle = own.unwrap_or_else(|| handle(random, state, channel));
     let mut message = data(random, handle);
     if random.once_in(12) {
@@ -75,9 +95,11 @@ fn service_handle(state: &State, channel: u64, service: usize) -> Option<u64> {
     channel.services[service].handle()
 }
 
-/// A handle: live on the channel, live anywhere, or another.
+/// A handle of ours: live on the channel, live anywhere, or another.
 fn handle(random: &mut Random, state: &State, channel: u64) -> u64 {
-    let anywhere = random.pick_any(&make::live(state)).unwrap_or(state.last);
+    let anywhere = random
+        .pick_any(&make::live(state))
+        .unwrap_or(TOP_BIT | state.last);
     let here: Vec<u64> = match state.channels.get(channel as usize) {
         Some(channel) => channel
             .services
@@ -89,7 +111,7 @@ fn handle(random: &mut Random, state: &State, channel: u64) -> u64 {
     let here = random.pick_any(&here).unwrap_or(anywhere);
     match random.below(10) {
         0 => anywhere,
-        1 => random.pick(&[0, state.last, state.last.wrapping_add(1), u64::MAX]),
+        1 => TOP_BIT | random.pick(&[0, state.last, state.last.wrapping_add(1), u64::MAX]),
         2 => here ^ random.pick(&[1, 2, 1 << 32, 1 << 63]),
         _ => here,
     }

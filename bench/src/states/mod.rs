@@ -10,5 +10,6 @@ mod lists;
 pub mod make;
 mod message;
 pub mod orders;
+mod peers;
 pub mod spoil;
 pub mod words;

@@ -1,15 +1,21 @@
 //! Values of words that the independent agent's form does not have.
 
+use super::peers::past_16_bits;
 use super::words::{DEVICE, DEVICE_COUNT, ORDER, PERMISSION};
+use super::words::{ID, ID_COUNT, MINOR, PEER, PEER_WORDS};
 use crate::proved::Words;
 use independent::device::{DEVICE_WORDS, MAX_DEVICES};
 use independent::generate::random::Random;
+use independent::peer::{ID_WORDS, MAX_IDS};
 
 /// What is spoilt.
-pub const SPOILT: [&str; 3] = [
+pub const SPOILT: [&str; 6] = [
     "a device with a mark past 1",
     "a permission past 1",
     "an order past 2",
+    "a version of an id past 16 bits",
+    "a registration's mark past 1",
+    "a registration's minor past 16 bits",
 ];
 
 /// Spoils one word, now and then; gives what was spoilt.
@@ -29,6 +35,24 @@ pub fn spoil(random: &mut Random, words: &mut Words) -> Option<&'static str> {
         3 => {
             words[ORDER] = value.max(3);
             Some(SPOILT[2])
+        }
+        4 | 5 => {
+            let count = words[ID_COUNT].min(MAX_IDS as u64);
+            let id = (count > 0).then(|| random.below(count) as usize)?;
+            words[ID + id * ID_WORDS + random.pick(&[0, 1])] = past_16_bits(random);
+            Some(SPOILT[3])
+        }
+        6..=8 => {
+            let channels = (0..4).map(|channel| PEER + channel * PEER_WORDS);
+            let marks = channels.flat_map(|start| start..start + MAX_IDS);
+            let marks: Vec<usize> = marks.filter(|mark| words[*mark] == 1).collect();
+            let mark = random.pick_any(&marks)?;
+            if random.once_in(2) {
+                words[mark] = value;
+                return Some(SPOILT[4]);
+            }
+            words[mark + MINOR] = past_16_bits(random);
+            Some(SPOILT[5])
         }
         _ => None,
     }

@@ -4,6 +4,7 @@
 use crate::proved::Words;
 use independent::block::{BLOCK_WORDS, MAX_BLOCKS};
 use independent::device::{DEVICE_WORDS, MAX_DEVICES, MAX_NAME};
+use independent::peer::{Peers, ID_WORDS, MAX_ID, MAX_IDS};
 use independent::removal::MAX_RECORDS;
 use independent::state::{CHANNELS, SERVICES};
 use independent::{Block, Order, Orders, Removal, Service, Settled, State};
@@ -33,7 +34,16 @@ const NAME: usize = 4;
 pub const PERMISSION: usize = DEVICE + MAX_DEVICES * DEVICE_WORDS;
 pub const ORDER: usize = PERMISSION + 2;
 const DELAY: usize = ORDER + 1;
-const END: usize = DELAY + 1;
+pub const ID_COUNT: usize = DELAY + 1;
+pub const ID: usize = ID_COUNT + 1;
+const ID_BYTES: usize = 2;
+const ID_NAME: usize = 3;
+/// By channel a mark, a handle and a minor version for each place of an id.
+pub const PEER: usize = ID + MAX_IDS * ID_WORDS;
+pub const PEER_WORDS: usize = 3 * MAX_IDS;
+const HANDLE: usize = MAX_IDS;
+pub const MINOR: usize = 2 * MAX_IDS;
+const END: usize = PEER + CHANNELS * PEER_WORDS;
 
 fn service_words(service: &Service) -> [u64; SERVICE_WORDS] {
     match *service {
@@ -76,7 +86,7 @@ fn put_removal(words: &mut Words, removal: &Removal) {
 }
 
 /// Permissions, the order, and a shutdown's delay, else 0.
-fn order_words(orders: &Orders) -> [u64; END - PERMISSION] {
+fn order_words(orders: &Orders) -> [u64; ID_COUNT - PERMISSION] {
     let [shutdown, panic] = orders.permitted.map(u64::from);
     let order = match orders.waiting {
         None => [0, 0],
@@ -84,6 +94,17 @@ fn order_words(orders: &Orders) -> [u64; END - PERMISSION] {
         Some(Order::Panic) => [2, 0],
     };
     [shutdown, panic, order[0], order[1]]
+}
+
+/// A channel's marks, handles and minor versions.
+fn peer_words(peers: &Peers) -> [u64; PEER_WORDS] {
+    let mut words = [0; PEER_WORDS];
+    for place in 0..MAX_IDS {
+        words[place] = peers.has(place).into();
+        words[HANDLE + place] = peers.handles[place];
+        words[MINOR + place] = peers.minors[place].into();
+    }
+    words
 }
 
 /// The words of a state; without a removal its words are 0.
@@ -116,17 +137,29 @@ pub fn words_of(state: &State) -> Words {
         let at = DEVICE + number * DEVICE_WORDS;
         words[at..at + DEVICE_WORDS].copy_from_slice(&device.words());
     }
-    words[PERMISSION..].copy_from_slice(&order_words(&state.orders));
+    words[PERMISSION..ID_COUNT].copy_from_slice(&order_words(&state.orders));
+    words[ID_COUNT] = state.ids.count as u64;
+    for (number, id) in state.ids.list.iter().enumerate() {
+        let at = ID + number * ID_WORDS;
+        words[at..at + ID_WORDS].copy_from_slice(&id.to_words());
+    }
+    for (number, peers) in state.peers.iter().enumerate() {
+        let at = PEER + number * PEER_WORDS;
+        words[at..at + PEER_WORDS].copy_from_slice(&peer_words(peers));
+    }
     words
 }
 
-/// The block list and the device list in a state's words, as setup takes them.
-pub fn lists_of(words: &Words) -> (Vec<u64>, Vec<u64>) {
+/// The block list, the device list and the id list in a state's words, as setup
+/// takes them.
+pub fn lists_of(words: &Words) -> [Vec<u64>; 3] {
     let blocks = words[BLOCK_COUNT].min(MAX_BLOCKS as u64) as usize;
     let devices = words[DEVICE_COUNT].min(MAX_DEVICES as u64) as usize;
     let blocks = &words[BLOCK..BLOCK + blocks * BLOCK_WORDS];
     let devices = &words[DEVICE..DEVICE + devices * DEVICE_WORDS];
-    (blocks.to_vec(), devices.to_vec())
+    let ids = words[ID_COUNT].min(MAX_IDS as u64) as usize;
+    let ids = &words[ID..ID + ids * ID_WORDS];
+    [blocks, devices, ids].map(|list| list.to_vec())
 }
 
 /// The words of devices after a call, those without a meaning too: as they
@@ -148,17 +181,21 @@ pub fn devices_in(words: &Words) -> &[u64] {
 /// The words of permissions and the order after a call, that of the delay
 /// included: as they were given, but for a permission set and, where an order
 /// was left or taken, both of its words.
-pub fn orders_after(given: &Words, before: &Orders, after: &Orders) -> [u64; END - PERMISSION] {
+pub fn orders_after(
+    given: &Words,
+    before: &Orders,
+    after: &Orders,
+) -> [u64; ID_COUNT - PERMISSION] {
     let mut words = order_words(after);
     if before.waiting == after.waiting {
-        words[ORDER - PERMISSION..].copy_from_slice(&given[ORDER..]);
+        words[ORDER - PERMISSION..].copy_from_slice(&given[ORDER..ID_COUNT]);
     }
     words
 }
 
 /// The words of permissions and the order in a state.
 pub fn orders_in(words: &Words) -> &[u64] {
-    &words[PERMISSION..]
+    &words[PERMISSION..ID_COUNT]
 }
 
 /// The words of a channel's request numbers that say nothing: both while the
@@ -194,9 +231,24 @@ fn free_of_device(words: &Words, device: usize) -> Range<usize> {
     at + NAME + bytes.div_ceil(8)..at + DEVICE_WORDS
 }
 
+/// The words after the last of an id's bytes.
+fn free_of_id(words: &Words, id: usize) -> Range<usize> {
+    let at = ID + id * ID_WORDS;
+    let bytes = words[at + ID_BYTES].min(MAX_ID as u64) as usize;
+    at + ID_NAME + bytes.div_ceil(8)..at + ID_WORDS
+}
+
+/// Handle and minor version of a place on a channel where no id is registered.
+fn free_of_peer(words: &Words, channel: usize, place: usize) -> [Range<usize>; 2] {
+    let mark = PEER + channel * PEER_WORDS + place;
+    let free = usize::from(words[mark] == 0);
+    [mark + HANDLE, mark + MINOR].map(|word| word..word + free)
+}
+
 /// The words that 01 and 02 give no meaning in this state: those of services,
-/// blocks and devices past the count, those past a device's name, the delay
-/// without a shutdown's order, a removal's words while none is outstanding, its
+/// blocks, devices and ids past the count, those past a device's name and an
+/// id's bytes, handles and minor versions of the peer where nothing is
+/// registered, the delay without a shutdown's order, a removal's words while none is outstanding, its
 /// records past the count, its results from the position on, and those of
 /// request numbers.
 fn free(words: &Words) -> Vec<Range<usize>> {
@@ -208,7 +260,12 @@ fn free(words: &Words) -> Vec<Range<usize>> {
     let devices = taken(DEVICE_COUNT, MAX_DEVICES);
     ranges.extend((0..devices).map(|device| free_of_device(words, device)));
     ranges.push(DEVICE + devices * DEVICE_WORDS..PERMISSION);
-    ranges.push(if words[ORDER] == 1 { END } else { DELAY }..END);
+    ranges.push(if words[ORDER] == 1 { ID_COUNT } else { DELAY }..ID_COUNT);
+    let ids = taken(ID_COUNT, MAX_IDS);
+    ranges.extend((0..ids).map(|id| free_of_id(words, id)));
+    ranges.push(ID + ids * ID_WORDS..PEER);
+    let places = (0..CHANNELS).flat_map(|channel| (0..MAX_IDS).map(move |at| (channel, at)));
+    ranges.extend(places.flat_map(|(channel, place)| free_of_peer(words, channel, place)));
     if words[OUTSTANDING] == 0 {
         ranges.push(CANCELLED..NUMBERED);
         return ranges;

@@ -25,7 +25,9 @@ use model::FIRST_ADDRESS_WORD;
 use model::FIRST_BLOCK_WORD;
 use model::FIRST_DEVICE_WORD;
 use model::FIRST_HANDLE_WORD;
+use model::FIRST_ID_WORD;
 use model::FIRST_MINOR_WORD;
+use model::FIRST_PEER_WORD;
 use model::FIRST_PERMISSION_WORD;
 use model::FIRST_PLACE;
 use model::FIRST_RESULT_WORD;
@@ -35,10 +37,16 @@ use model::HELD_WORD;
 use model::HIGHEST_DELAY;
 use model::HIGHEST_MINOR;
 use model::HIGHEST_NUMBER;
+use model::ID_BYTES_PLACE;
+use model::ID_COUNT_WORD;
+use model::ID_MINOR_PLACE;
+use model::ID_PLACE;
+use model::ID_WORDS;
 use model::JOURNAL_WORDS;
 use model::LAST_WORD;
 use model::MOST_BLOCKS;
 use model::MOST_HELD;
+use model::MOST_IDS;
 use model::MOST_RECORDS;
 use model::NAME_BYTES_PLACE;
 use model::NAME_PLACE;
@@ -48,6 +56,7 @@ use model::ORDER_WORD;
 use model::OUTPUT_BYTES;
 use model::OUTSTANDING_WORD;
 use model::PAGES_PLACE;
+use model::PEER_WORDS;
 use model::PERMANENT_PLACE;
 use model::POSITION_WORD;
 use model::REGISTERED;
@@ -56,7 +65,8 @@ use model::REMOVAL_HANDLE_WORD;
 use model::SERVICE_WORDS;
 use model::STATE_WORDS;
 use model::State;
-ghost use Rattle.model.specs.Layout.{stateWords};
+use model::TOP_BIT;
+ghost use Rattle.model.specs.Layout.{mostIds, stateWords};
 
 type Journal = [u64; JOURNAL_WORDS];
 
@@ -79,6 +89,18 @@ const SECOND: usize = FIRST_BLOCK_WORD + BLOCK_WORDS;
 const DEVICE: usize = FIRST_DEVICE_WORD;
 
 const DISK: u64 = 0x6469736b00000000;
+
+// The words of the first id, and the first word of the id `sp-log`; the words of channel 2's peer registrations: of the first id's the mark, the handle and the
+// minor version.
+const ID: usize = FIRST_ID_WORD;
+
+const SP_LOG: u64 = 0x73702d6c6f670000;
+
+const PEER: usize = FIRST_PEER_WORD + 2 * PEER_WORDS;
+
+const PEER_HANDLE: usize = PEER + MOST_IDS;
+
+const PEER_MINOR: usize = PEER_HANDLE + MOST_IDS;
 
 // What every word of the journal and every byte of the output holds before a call.
 const WORD: u64 = 7;
@@ -207,10 +229,13 @@ fn drain(before: &State, text: &mut Text, used: &mut usize) {
     }
 }
 
-// Data under handle 3, which the sound state has registered for service 1 on channel 2: that is answered inside, so that it is not shown.
+// Data on channel 2 under our handle 3, which the sound state has registered for service 1: that is answered inside, so that it is not shown; and under the
+// peer's handle 5, which is.
 fn show(before: &State, text: &mut Text, used: &mut usize) {
-    let data = b"\x00\x00\x00\x09\x00\x00\x00\x09\x00\x00\x00\x00\x00\x00\x00\x03\x41";
-    answers::shown(text, used, agent::show(before, 2, data));
+    let ours = b"\x00\x00\x00\x09\x00\x00\x00\x09\x80\x00\x00\x00\x00\x00\x00\x03\x41";
+    answers::shown(text, used, agent::show(before, 2, ours));
+    let peers = b"\x00\x00\x00\x09\x00\x00\x00\x09\x00\x00\x00\x00\x00\x00\x00\x05\x42";
+    answers::shown(text, used, agent::show(before, 2, peers));
 }
 
 fn permit(before: &State, text: &mut Text, used: &mut usize) {
@@ -258,30 +283,47 @@ fn two_devices() -> [u64; 2 * DEVICE_WORDS] {
     words
 }
 
+// Two ids: `sp-log` 1.2 and `sp-fan` 2.0.
+fn two_ids() -> [u64; 2 * ID_WORDS] {
+    let mut words = [0u64; 2 * ID_WORDS];
+    words[0] = 1;
+    words[ID_MINOR_PLACE] = 2;
+    words[ID_BYTES_PLACE] = 7;
+    words[ID_PLACE] = SP_LOG;
+    words[ID_WORDS] = 2;
+    words[ID_WORDS + ID_BYTES_PLACE] = 7;
+    words[ID_WORDS + ID_PLACE] = 0x73702d66616e0000;
+    words
+}
+
 // A state of two blocks, the second unconfigured: channel 2 ready, service 0 registered under handle 2, service 1 under 3, service 2 offered under
 // 4; nine entries numbered and none held; a removal of the first block and then the second, under handle 2, just begun; two devices with id 1, `disk` configured
-// and `net0` busy.
+// and `net0` busy; two ids, of which the peer has the first registered on channel 2 under its handle 5, with minor version 2.
 fn sound_state() -> State {
     let list = [0x10000000u64, 4, 0, 0, 1, 0x20000000, 2, 0, 0, 0];
     let devices = two_devices();
-    let started = agent::setup(&list, &devices);
+    let ids = two_ids();
+    let started = agent::setup(&list, &devices, &ids);
     let mut state = started.state;
     state[2] = 1;
     state[STAGE] = REGISTERED;
-    state[HANDLE] = 2;
+    state[HANDLE] = TOP_BIT + 2;
     state[STAGE + SERVICE_WORDS] = REGISTERED;
-    state[HANDLE + SERVICE_WORDS] = 3;
+    state[HANDLE + SERVICE_WORDS] = TOP_BIT + 3;
     state[STAGE + 2 * SERVICE_WORDS] = OFFERED;
-    state[HANDLE + 2 * SERVICE_WORDS] = 4;
+    state[HANDLE + 2 * SERVICE_WORDS] = TOP_BIT + 4;
     state[LAST_WORD] = 9;
     state[OUTSTANDING_WORD] = 1;
     state[REMOVAL_CHANNEL_WORD] = 2;
-    state[REMOVAL_HANDLE_WORD] = 2;
+    state[REMOVAL_HANDLE_WORD] = TOP_BIT + 2;
     state[COUNT_WORD] = 2;
     state[FIRST_ADDRESS_WORD] = 0x10000000;
     state[FIRST_ADDRESS_WORD + 1] = 0x20000000;
     state[FIRST_SIZE_WORD] = 0x8000;
     state[FIRST_SIZE_WORD + 1] = 0x4000;
+    state[PEER] = 1;
+    state[PEER_HANDLE] = 5;
+    state[PEER_MINOR] = 2;
     state
 }
 
@@ -329,15 +371,28 @@ fn services(text: &mut Text, used: &mut usize) {
         text,
         used,
     );
-    changed(b"# a live handle 0\n", HANDLE, 0, text, used);
+    changed(b"# a live handle 0\n", HANDLE, TOP_BIT, text, used);
     changed(
-        b"# a live handle above the last number\n",
+        b"# a live handle without the top bit\n",
         HANDLE,
-        10,
+        2,
         text,
         used,
     );
-    changed(b"# two live handles the same\n", HANDLE, 3, text, used);
+    changed(
+        b"# a live handle above the last number\n",
+        HANDLE,
+        TOP_BIT + 10,
+        text,
+        used,
+    );
+    changed(
+        b"# two live handles the same\n",
+        HANDLE,
+        TOP_BIT + 3,
+        text,
+        used,
+    );
 }
 
 // A word that says nothing in this state may hold anything: a receive is accepted and its entry drained.
@@ -403,6 +458,28 @@ fn unread_words(text: &mut Text, used: &mut usize) {
     unread(
         b"# a third device's name, where two are held\n",
         DEVICE + 2 * DEVICE_WORDS + NAME_BYTES_PLACE,
+        text,
+        used,
+    );
+}
+
+fn unread_peers(text: &mut Text, used: &mut usize) {
+    unread(b"# a word after an id\n", ID + ID_PLACE + 1, text, used);
+    unread(
+        b"# a third id's bytes, where two are held\n",
+        ID + 2 * ID_WORDS + ID_BYTES_PLACE,
+        text,
+        used,
+    );
+    unread(
+        b"# the handle of an id that is not registered\n",
+        PEER_HANDLE + 1,
+        text,
+        used,
+    );
+    unread(
+        b"# the minor version of an id that is not registered\n",
+        PEER_MINOR + 1,
         text,
         used,
     );
@@ -631,6 +708,143 @@ fn orders(text: &mut Text, used: &mut usize) {
     );
 }
 
+// The first id, of seven bytes with its zero.
+fn ids(text: &mut Text, used: &mut usize) {
+    changed(b"# 17 ids\n", ID_COUNT_WORD, 17, text, used);
+    changed(b"# a major above 65535\n", ID, 65536, text, used);
+    changed(
+        b"# a highest minor above 65535\n",
+        ID + ID_MINOR_PLACE,
+        65536,
+        text,
+        used,
+    );
+    changed(b"# an id of no bytes\n", ID + ID_BYTES_PLACE, 0, text, used);
+    changed(
+        b"# an id of 33 bytes\n",
+        ID + ID_BYTES_PLACE,
+        33,
+        text,
+        used,
+    );
+    changed(
+        b"# an id without its zero\n",
+        ID + ID_PLACE,
+        0x73702d6c6f677300,
+        text,
+        used,
+    );
+    changed(
+        b"# an id with a second zero\n",
+        ID + ID_PLACE,
+        0x73002d6c6f670000,
+        text,
+        used,
+    );
+    changed(
+        b"# a byte other than 0 after an id, in its last word\n",
+        ID + ID_PLACE,
+        SP_LOG + 1,
+        text,
+        used,
+    );
+    changed(
+        b"# an id twice\n",
+        ID + ID_WORDS + ID_PLACE,
+        SP_LOG,
+        text,
+        used,
+    );
+}
+
+fn peers(text: &mut Text, used: &mut usize) {
+    changed(
+        b"# a peer registration neither made nor not\n",
+        PEER,
+        2,
+        text,
+        used,
+    );
+    changed(
+        b"# a peer registration on a closed channel\n",
+        PEER - PEER_WORDS,
+        1,
+        text,
+        used,
+    );
+    changed(
+        b"# a peer registration of an id that is not listed\n",
+        PEER + 2,
+        1,
+        text,
+        used,
+    );
+    changed(
+        b"# a peer's handle with the top bit\n",
+        PEER_HANDLE,
+        TOP_BIT,
+        text,
+        used,
+    );
+    changed(
+        b"# a peer's minor version above the list's\n",
+        PEER_MINOR,
+        3,
+        text,
+        used,
+    );
+    changed_two(
+        b"# two peer handles of a channel the same\n",
+        PEER + 1,
+        1,
+        PEER_HANDLE + 1,
+        5,
+        text,
+        used,
+    );
+}
+
+// Id p, of one byte and its zero, with version 1.0; and its registration on channel 2 under the handle p, made (1) or not (0).
+fn put_id(state: &mut State, p: usize, mark: u64)
+    requires { ⌜ p < mostIds ⌝ }
+{
+    state[ID + p * ID_WORDS] = 1;
+    state[ID + p * ID_WORDS + ID_MINOR_PLACE] = 0;
+    state[ID + p * ID_WORDS + ID_BYTES_PLACE] = 2;
+    state[ID + p * ID_WORDS + ID_PLACE] = (65 + p as u64) << 56;
+    state[PEER + p] = mark;
+    state[PEER_HANDLE + p] = p as u64;
+    state[PEER_MINOR + p] = 0;
+}
+
+// The sound state with sixteen ids, the first `count` of which the peer has registered on channel 2.
+fn registered(count: usize) -> State {
+    let mut state = sound_state();
+    state[ID_COUNT_WORD] = MOST_IDS as u64;
+    let mut p: usize = 0;
+    while p < MOST_IDS {
+        if p < count {
+            put_id(&mut state, p, 1);
+        } else {
+            put_id(&mut state, p, 0);
+        }
+        p += 1;
+    }
+    state
+}
+
+// Eight peer registrations of a channel, and nine.
+fn most_peers(text: &mut Text, used: &mut usize) {
+    let mut journal = [0u64; JOURNAL_WORDS];
+    let mut out = [0u8; OUTPUT_BYTES];
+    let mut state = registered(8);
+    output::put(text, used, b"# eight peer registrations of a channel\n");
+    let a = init(&mut state, &mut journal, &mut out);
+    answers::answered(text, used, b"receive", a, &out);
+    output::put(text, used, b"# nine peer registrations of a channel\n");
+    each_call(&registered(9), text, used);
+}
+
 fn removals(text: &mut Text, used: &mut usize) {
     changed(
         b"# a removal's channel above 3\n",
@@ -642,7 +856,14 @@ fn removals(text: &mut Text, used: &mut usize) {
     changed(
         b"# a removal's handle above the last number\n",
         REMOVAL_HANDLE_WORD,
-        10,
+        TOP_BIT + 10,
+        text,
+        used,
+    );
+    changed(
+        b"# a removal's handle without the top bit\n",
+        REMOVAL_HANDLE_WORD,
+        2,
         text,
         used,
     );
@@ -751,6 +972,7 @@ fn main() {
     show(&sound_state(), &mut text, &mut used);
     services(&mut text, &mut used);
     unread_words(&mut text, &mut used);
+    unread_peers(&mut text, &mut used);
     places_of_blocks(&mut text, &mut used);
     permanent_pages(&mut text, &mut used);
     seventeen_blocks(&mut text, &mut used);
@@ -759,6 +981,9 @@ fn main() {
     devices(&mut text, &mut used);
     names(&mut text, &mut used);
     orders(&mut text, &mut used);
+    ids(&mut text, &mut used);
+    peers(&mut text, &mut used);
+    most_peers(&mut text, &mut used);
     last_number(&mut text, &mut used);
     last_number_but_one(&mut text, &mut used);
     unsound_first(&mut text, &mut used);

@@ -1,42 +1,57 @@
-// What `device` lines give for the next setup: the words of a device list, and at the end how many devices it has.
+// What `device` and `peer` lines give for the next setup: the words of a device list and how many devices it has, then the words of an id list and how many ids.
 ghost use Prim.Native.Nat.{_+_, _*_, _≤_};
 ghost use lib.ListN.{length};
-ghost use Rattle.model.specs.Layout.{deviceWords, mostNameBytes, nameWords};
+ghost use Rattle.model.specs.Layout.{deviceWords, idPlace, idWords, mostIdBytes, mostNameBytes, nameWords, wordBytes};
 use model::BUSY_PLACE;
 use model::DEVICE_CONFIGURED_PLACE;
 use model::DEVICE_WORDS;
+use model::ID_BYTES_PLACE;
+use model::ID_MINOR_PLACE;
+use model::ID_PLACE;
+use model::ID_WORDS;
 use model::NAME_BYTES_PLACE;
 use model::NAME_PLACE;
 use model::NAME_WORDS;
 use model::WORD_BYTES;
 use model::lower;
 
-// The most devices that lines can give.
+// The most devices and the most ids that lines can give.
 const MOST_GIVEN: usize = 64;
+
+const MOST_GIVEN_IDS: usize = 32;
 
 const COUNT_WORD: usize = MOST_GIVEN * DEVICE_WORDS;
 
-pub(crate) const GIVEN_WORDS: usize = COUNT_WORD + 1;
+pub(crate) const FIRST_GIVEN_ID: usize = COUNT_WORD + 1;
+
+const ID_COUNT: usize = FIRST_GIVEN_ID + MOST_GIVEN_IDS * ID_WORDS;
+
+pub(crate) const GIVEN_WORDS: usize = ID_COUNT + 1;
 
 pub(crate) type Given = [u64; GIVEN_WORDS];
 
-// How many words the devices given have.
+// How many words the devices given have, and the ids.
 pub(crate) fn words_of(given: &Given) -> usize {
     lower(given[COUNT_WORD], MOST_GIVEN as u64) as usize * DEVICE_WORDS
+}
+
+pub(crate) fn id_words_of(given: &Given) -> usize {
+    lower(given[ID_COUNT], MOST_GIVEN_IDS as u64) as usize * ID_WORDS
 }
 
 // None is given.
 pub(crate) fn empty(given: &mut Given) {
     given[COUNT_WORD] = 0;
+    given[ID_COUNT] = 0;
 }
 
-// The name's words, from `at` on: its bytes, most significant first. Of a name of more than 256 bytes they hold the first 256.
-fn put_name(given: &mut Given, at: usize, name: &[u8])
-    requires { ⌜ mostNameBytes ≤ length (now name) ⌝ }
-    requires { ⌜ at + nameWords ≤ 64 * deviceWords ⌝ }
+// `n` words from `at` on: the bytes of a name, most significant first. A name of more bytes than they hold is cut.
+fn put_name(given: &mut Given, at: usize, n: usize, name: &[u8])
+    requires { ⌜ n * wordBytes ≤ length (now name) ⌝ }
+    requires { ⌜ at + n ≤ 64 * deviceWords + 1 + 32 * idWords ⌝ }
 {
     let mut j: usize = 0;
-    while j < NAME_WORDS {
+    while j < n {
         given[at + j] = wire::get64(name, j * WORD_BYTES);
         j += 1;
     }
@@ -55,7 +70,24 @@ pub(crate) fn add(given: &mut Given, numbers: [u64; 3], count: usize, name: &[u8
     given[at + DEVICE_CONFIGURED_PLACE] = numbers[1];
     given[at + BUSY_PLACE] = numbers[2];
     given[at + NAME_BYTES_PLACE] = count as u64;
-    put_name(given, at + NAME_PLACE, name);
+    put_name(given, at + NAME_PLACE, NAME_WORDS, name);
     given[COUNT_WORD] = devices + 1;
+    true
+}
+
+// One id more, of `count` bytes, likewise.
+pub(crate) fn add_id(given: &mut Given, numbers: [u64; 2], count: usize, id: &[u8]) -> bool
+    requires { ⌜ mostIdBytes ≤ length (now id) ⌝ }
+{
+    let ids = given[ID_COUNT];
+    if (MOST_GIVEN_IDS as u64) <= ids {
+        return false;
+    }
+    let at = FIRST_GIVEN_ID + ids as usize * ID_WORDS;
+    given[at] = numbers[0];
+    given[at + ID_MINOR_PLACE] = numbers[1];
+    given[at + ID_BYTES_PLACE] = count as u64;
+    put_name(given, at + ID_PLACE, ID_WORDS - ID_PLACE, id);
+    given[ID_COUNT] = ids + 1;
     true
 }

@@ -85,9 +85,13 @@ fn call(
     if fields::same(name, b"device") {
         return parsed::device(rest, given);
     }
+    if fields::same(name, b"peer") {
+        return parsed::peer(rest, given);
+    }
     if fields::same(name, b"setup") {
-        let words = given::words_of(given);
-        if !parsed::setup(rest, given, words, state, text, used) {
+        let devices = given::words_of(given);
+        let ids = given::id_words_of(given);
+        if !parsed::setup(rest, given, devices, ids, state, text, used) {
             return false;
         }
         given::empty(given);

@@ -1,4 +1,4 @@
-// What a state holds, as text: channels with their live services, blocks, devices, permissions, the order, the removal, the last entry number.
+// What a state holds, as text: channels with their live services and the peer's, blocks, devices, permissions, the order, the removal, the last entry number.
 ghost use Prim.Native.Nat.{_≤_, _<_};
 use crate::answers;
 use lines::output;
@@ -7,13 +7,14 @@ use model::CHANNEL_COUNT;
 use model::IDLE;
 use model::MOST_BLOCKS;
 use model::MOST_DEVICES;
+use model::MOST_IDS;
 use model::OFFERED;
 use model::PANIC_SERVICE;
 use model::SERVICE_COUNT;
 use model::SHUTDOWN_SERVICE;
 use model::State;
 use model::lower;
-ghost use Rattle.model.specs.Layout.{channelCount, mostBlocks, mostDevices, placeCount, serviceCount, shutdownService};
+ghost use Rattle.model.specs.Layout.{channelCount, mostBlocks, mostDevices, mostIds, placeCount, serviceCount, shutdownService};
 
 // The service at place k, if it is not idle.
 fn put_service(text: &mut Text, used: &mut usize, state: &State, service: u64, k: usize)
@@ -46,6 +47,32 @@ fn put_services(text: &mut Text, used: &mut usize, state: &State, channel: usize
     }
 }
 
+// What the peer has registered there, if it has.
+fn put_peer(text: &mut Text, used: &mut usize, state: &State, channel: usize, p: usize)
+    requires { ⌜ channel < channelCount ⌝ }
+    requires { ⌜ p < mostIds ⌝ }
+{
+    if !peers::is_peered(state, channel, p) {
+        return;
+    }
+    output::put(text, used, b"peer");
+    output::put_decimal(text, used, p as u64);
+    output::put(text, used, b" registered");
+    output::put_decimal(text, used, peers::handle_of(state, channel, p));
+    output::put_decimal(text, used, peers::minor_of(state, channel, p));
+    output::put_byte(text, used, b'\n');
+}
+
+fn put_peers(text: &mut Text, used: &mut usize, state: &State, channel: usize)
+    requires { ⌜ channel < channelCount ⌝ }
+{
+    let mut p: usize = 0;
+    while p < MOST_IDS {
+        put_peer(text, used, state, channel, p);
+        p += 1;
+    }
+}
+
 fn put_channel(text: &mut Text, used: &mut usize, state: &State, channel: usize)
     requires { ⌜ channel < channelCount ⌝ }
 {
@@ -57,6 +84,7 @@ fn put_channel(text: &mut Text, used: &mut usize, state: &State, channel: usize)
         output::put(text, used, b" closed\n");
     }
     put_services(text, used, state, channel);
+    put_peers(text, used, state, channel);
 }
 
 fn put_channels(text: &mut Text, used: &mut usize, state: &State) {

@@ -3,6 +3,7 @@
 use crate::answers;
 use crate::answers::RUN_WORDS;
 use crate::given;
+use crate::given::FIRST_GIVEN_ID;
 use crate::given::Given;
 use crate::listing;
 use lines::fields;
@@ -18,6 +19,9 @@ const MOST: usize = 16384;
 
 // The longest name of a device that a line can give.
 const LONGEST_NAME: usize = 300;
+
+// And the longest id.
+const LONGEST_ID: usize = 64;
 
 // Two numbers that a line's fields give (the second 0 where there is one; the count of bytes where there are bytes), or a bad line.
 pub(crate) enum Numbers {
@@ -96,11 +100,22 @@ pub(crate) fn device(rest: &[u8], given: &mut Given) -> bool {
     given::add(given, numbers, count, &name)
 }
 
-// The next setup, with the devices given so far: `words` words of those that are lent.
+// An id for the next setup: its major, highest minor and bytes.
+pub(crate) fn peer(rest: &[u8], given: &mut Given) -> bool {
+    let mut numbers = [0u64; 2];
+    let mut id = [0u8; LONGEST_ID];
+    let Read::Count(count) = numbers_and_bytes(rest, &mut numbers, &mut id) else {
+        return false;
+    };
+    given::add_id(given, numbers, count, &id)
+}
+
+// The next setup, with the devices and the ids given so far: `device_words` and `id_words` words of those that are lent.
 pub(crate) fn setup(
     rest: &[u8],
     given: &[u64],
-    words: usize,
+    device_words: usize,
+    id_words: usize,
     state: &mut State,
     text: &mut Text,
     used: &mut usize,
@@ -110,8 +125,10 @@ pub(crate) fn setup(
         return false;
     };
     let end = words_within(count, &list);
-    let given_end = words_within(words, given);
-    let started = agent::setup(&list[..end], &given[..given_end]);
+    let devices = words_within(device_words, given);
+    let listed = &given[words_within(FIRST_GIVEN_ID, given)..];
+    let ids = words_within(id_words, listed);
+    let started = agent::setup(&list[..end], &given[..devices], &listed[..ids]);
     let made = started.state;
     *state = made;
     answers::started(text, used, started.refusal);

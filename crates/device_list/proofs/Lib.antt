@@ -1,6 +1,4 @@
 -- Laws that several proofs cite.
 -- Assumes nothing.
-pub mod Bytes
-pub mod Zeros
 pub mod Rising
 pub mod Names

@@ -15,7 +15,7 @@ use Rattle.model.specs.Choice.{_and_, every}
 use Rattle.model.specs.Devices.{deviceApart, isDevice}
 use Rattle.model.specs.Layout.{deviceIn, deviceWords}
 use Rattle.model.proofs.Choice.{and-false, every-at, every-make}
-use Rattle.device_list.specs.NameWords.{idsRise}
+use Rattle.device_list.specs.Rising.{idsRise}
 
 -- one test more
 pub every-next : (f : ℕ → Bool) (j : ℕ) → every (j + 1) f ≡ (every j f and f j)

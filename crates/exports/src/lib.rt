@@ -21,10 +21,15 @@ ghost use mathlib.Core.Path.{_≡_};
 
 // The state is written: that of the lists, or that of empty lists where 7 is returned.
 #[no_mangle]
-pub extern "C" fn arkelutz_setup(state: &mut State, blocks: &[u64], devices: &[u64]) -> u64
-    ensures { λ r. ⌜ SetupPost (record { blocks = now (blocks .entry); devices = now (devices .entry) }) (record { refusal = r; state = now (state .exit) }) ⌝ }
+pub extern "C" fn arkelutz_setup(
+    state: &mut State,
+    blocks: &[u64],
+    devices: &[u64],
+    ids: &[u64],
+) -> u64
+    ensures { λ r. ⌜ SetupPost (record { blocks = now (blocks .entry); devices = now (devices .entry); ids = now (ids .entry) }) (record { refusal = r; state = now (state .exit) }) ⌝ }
 {
-    let started = agent::setup(blocks, devices);
+    let started = agent::setup(blocks, devices, ids);
     let words = started.state;
     *state = words;
     started.refusal

@@ -12,7 +12,7 @@ use Rattle.wire.specs.BigEndian.{byteAt}
 use Rattle.wire.proofs.Laws.{byte-at}
 use Rattle.model.specs.Choice.{pick, _and_}
 use Rattle.model.specs.declared.Message.{Message}
-use Rattle.model.specs.declared.Message.the-variants.{InitReq, Data, Bad}
+use Rattle.model.specs.declared.Message.the-variants.{InitReq, RegReq, RegAck, RegNack, Unreg, UnregAck, UnregNack, Data, Nack, Bad}
 use Rattle.model.specs.Messages.{DS-INIT-REQ, DS-REG-REQ, DS-REG-ACK, DS-REG-NACK, DS-UNREG, DS-UNREG-ACK, DS-UNREG-NACK, DS-DATA, DS-NACK, decoded, decodedByType, idFits, mostPayload, payloadFits, payloadLength, typeOf, wellFormed, wholeMessage}
 use Rattle.model.proofs.Choice.{both, clash, on-pick}
 use Rattle.messages.specs.Id.{noZero}
@@ -104,6 +104,10 @@ module _ (m : List ℕ) where
     unfolding payloadFits pick
     ack-payload e = eqb-true _ _ (rw e at fits)
 
+    pub reg-payload : typeOf m ≡ DS-REG-REQ → 13 ≤ payloadLength m
+    unfolding payloadFits pick
+    reg-payload e = id-rules (rw e at fits) .low
+
     pub handle-payload : (typeOf m ≡ DS-INIT-REQ → ⊥) → 8 ≤ payloadLength m
     unfolding payloadFits
     handle-payload other =
@@ -140,3 +144,28 @@ data-there m handle =
   where
     P : Message → Type 0
     P x = x ≡ Data handle → dataHeaderBytes ≤ length m
+
+-- one that is REG_REQ has a handle, two versions and an id, which begins at byte 20
+pub reg-there : (m : List ℕ) (handle : ℕ) → decoded m ≡ RegReq handle → 20 ≤ length m
+unfolding decoded decodedByType
+reg-there m handle =
+    on-pick P (wellFormed m) _ Bad
+    (λ well.
+    on-pick P (eqb (typeOf m) DS-INIT-REQ) (InitReq _) _
+    (λ _ e. absurd (let z : _≡_ {A = ℕ} 0 1 = cc in omega arith))
+    (λ _. on-pick P (eqb (typeOf m) DS-REG-REQ) (RegReq _) _
+    (λ reg _.
+    let rules = well-rules m well in
+    let room = reg-payload m (rules .1) (eqb-true (typeOf m) DS-REG-REQ reg) in
+    omega arith)
+    (λ _. on-pick P (eqb (typeOf m) DS-REG-ACK) (RegAck _ _) _ (λ _ e. absurd (let z : _≡_ {A = ℕ} 0 1 = cc in omega arith))
+    (λ _. on-pick P (eqb (typeOf m) DS-REG-NACK) (RegNack _) _ (λ _ e. absurd (let z : _≡_ {A = ℕ} 0 1 = cc in omega arith))
+    (λ _. on-pick P (eqb (typeOf m) DS-UNREG) (Unreg _) _ (λ _ e. absurd (let z : _≡_ {A = ℕ} 0 1 = cc in omega arith))
+    (λ _. on-pick P (eqb (typeOf m) DS-UNREG-ACK) UnregAck _ (λ _ e. absurd (let z : _≡_ {A = ℕ} 0 1 = cc in omega arith))
+    (λ _. on-pick P (eqb (typeOf m) DS-UNREG-NACK) UnregNack _ (λ _ e. absurd (let z : _≡_ {A = ℕ} 0 1 = cc in omega arith))
+    (λ _. on-pick P (eqb (typeOf m) DS-DATA) (Data _) _ (λ _ e. absurd (let z : _≡_ {A = ℕ} 0 1 = cc in omega arith))
+    (λ _. on-pick P (eqb (typeOf m) DS-NACK) Nack Bad (λ _ e. absurd (let z : _≡_ {A = ℕ} 0 1 = cc in omega arith)) (λ _ e. absurd (let z : _≡_ {A = ℕ} 0 1 = cc in omega arith)))))))))))
+    (λ _ e. absurd (let z : _≡_ {A = ℕ} 0 1 = cc in omega arith))
+  where
+    P : Message → Type 0
+    P x = x ≡ RegReq handle → 20 ≤ length m

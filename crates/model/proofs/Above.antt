@@ -1,4 +1,4 @@
--- What an effect does to the words above those of request numbers: the devices, the permissions and the order.
+-- What an effect does to the words between those of request numbers and of peers: the devices, the permissions and the order.
 -- Assumes nothing.
 use Prim.Native.Nat.{ℕ, _+_, _*_, _<_, _≤_}
 use native.Mathlib.Omega.{arith}
@@ -10,7 +10,7 @@ use lib.Dec.{eqb, leb}
 use borrow.Author.Tests.{leb-true, eqb-true, eqb-false, ne-eqb}
 use Rattle.model.specs.Choice.{pick, _and_}
 use Rattle.model.specs.declared.Event.{Event}
-use Rattle.model.specs.Layout.{devicesOf, deviceConfiguredPlace, deviceWords, mostDevices, deviceCountWord, firstDeviceWord, firstPermissionWord, orderWord, delayWord, stateWords, withDevice}
+use Rattle.model.specs.Layout.{devicesOf, deviceConfiguredPlace, deviceWords, mostDevices, deviceCountWord, firstDeviceWord, firstPermissionWord, orderWord, delayWord, idCountWord, stateWords, withDevice}
 use Rattle.model.specs.Devices.{devicesKeep}
 use Rattle.model.specs.State.{ordersSound}
 use Rattle.model.specs.Journal.{kindNoted, kindDevice, kindPermitted, kindTaken, kindOrdered, fieldsOf}
@@ -19,18 +19,24 @@ use Rattle.model.specs.Reading.{devicesShown, readDevices, Orders, order
 use Rattle.model.proofs.Words.{Agree, device-frame, device-word}
 use Rattle.model.proofs.Devices.{device-facts, devices-same, shown-same, devices-flagged, shown-flagged}
 
--- an event of a kind of 01 or 18 changes no permission and no order, and one above 18 no device
-no-order : (number : ℕ) (e : Event) (o : Orders) → e .kind ≤ kindDevice → readOrders (fieldsOf number e) (e .word) o ≡ o
+-- an event of another kind than 19 to 21 changes no permission and no order, and one above 18 no device
+other-kind : (number : ℕ) (e : Event) (o : Orders) → (kindPermitted ≤ e .kind → e .kind ≤ kindOrdered → ⊥) → readOrders (fieldsOf number e) (e .word) o ≡ o
 unfolding readOrders fieldsOf
-no-order number e o h =
+other-kind number e o h =
     rw (
-      ne-eqb (e .kind) kindPermitted (λ q. omega arith),
-      ne-eqb (e .kind) kindTaken (λ q. omega arith),
-      ne-eqb (e .kind) kindOrdered (λ q. omega arith),
+      ne-eqb (e .kind) kindPermitted (λ q. h (omega arith) (omega arith)),
+      ne-eqb (e .kind) kindTaken (λ q. h (omega arith) (omega arith)),
+      ne-eqb (e .kind) kindOrdered (λ q. h (omega arith) (omega arith)),
     )
     (unfold pick _and_ in refl)
 
-module _ (s t : List ℕ) (a : Agree s t firstPermissionWord stateWords) where
+no-order : (number : ℕ) (e : Event) (o : Orders) → e .kind ≤ kindDevice → readOrders (fieldsOf number e) (e .word) o ≡ o
+no-order number e o h = other-kind number e o (λ lo hi. omega arith)
+
+pub after-orders : (number : ℕ) (e : Event) (o : Orders) → kindOrdered < e .kind → readOrders (fieldsOf number e) (e .word) o ≡ o
+after-orders number e o h = other-kind number e o (λ lo hi. omega arith)
+
+module _ (s t : List ℕ) (a : Agree s t firstPermissionWord idCountWord) where
   orders-same : ordersSound t ≡ ordersSound s
   unfolding ordersSound
   orders-same =
@@ -56,13 +62,13 @@ module _ (s t : List ℕ) (a : Agree s t firstPermissionWord stateWords) where
 
 pub data AboveTurn (s : List ℕ) (e : Effect) : Type 0 where
   -- nothing; its kind is one of 01's
-  leavesAbove : Agree s (e .state) deviceCountWord stateWords → leb (e .event .kind) kindNoted ≡ true → AboveTurn s e
+  leavesAbove : Agree s (e .state) deviceCountWord idCountWord → leb (e .event .kind) kindNoted ≡ true → AboveTurn s e
   -- it sets one device's flag and notes it
   asksDevice :
       (i flag : ℕ) →
       i < devicesOf s →
       flag ≤ 1 →
-      Agree (withDevice s i flag) (e .state) deviceCountWord stateWords →
+      Agree (withDevice s i flag) (e .state) deviceCountWord idCountWord →
       e .event .kind ≡ kindDevice →
       e .event .count ≡ i →
       e .event .word ≡ flag →
@@ -76,15 +82,15 @@ pub data AboveTurn (s : List ℕ) (e : Effect) : Type 0 where
       AboveTurn s e
 
 -- the words below the permissions, and those from them on
-below-orders : (s t : List ℕ) → Agree s t deviceCountWord stateWords → Agree s t deviceCountWord firstPermissionWord
+below-orders : (s t : List ℕ) → Agree s t deviceCountWord idCountWord → Agree s t deviceCountWord firstPermissionWord
 below-orders s t a j lo hi = a j lo (omega arith)
 
-from-orders : (s t : List ℕ) → Agree s t deviceCountWord stateWords → Agree s t firstPermissionWord stateWords
+from-orders : (s t : List ℕ) → Agree s t deviceCountWord idCountWord → Agree s t firstPermissionWord idCountWord
 from-orders s t a j lo hi = a j (omega arith) hi
 
 module _ (s : List ℕ) (size : length s ≡ stateWords) (old : devicesKeep s firstDeviceWord (devicesOf s) ≡ true) where
   -- a device's flag is below the orders
-  flag-below : (i flag : ℕ) → i < devicesOf s → Agree s (withDevice s i flag) firstPermissionWord stateWords
+  flag-below : (i flag : ℕ) → i < devicesOf s → Agree s (withDevice s i flag) firstPermissionWord idCountWord
   flag-below i flag h j lo hi =
       let few = device-facts s firstDeviceWord (devicesOf s) old .few in
       device-frame s i flag j (λ p q. omega arith)
@@ -123,13 +129,13 @@ module _ (s : List ℕ) (size : length s ≡ stateWords) (old : devicesKeep s fi
   turn-ordered e number (setsOrders a o k r) = r number
 
   -- the turn of an effect of another state with the same words there
-  pub turn-back : (t : List ℕ) (e : Effect) → length t ≡ stateWords → Agree s t deviceCountWord stateWords → AboveTurn t e → AboveTurn s e
+  pub turn-back : (t : List ℕ) (e : Effect) → length t ≡ stateWords → Agree s t deviceCountWord idCountWord → AboveTurn t e → AboveTurn s e
   turn-back t e n a (leavesAbove b k) = leavesAbove (λ j lo hi. b j lo hi ∙ a j lo hi) k
   turn-back t e n a (asksDevice i flag h small b k c w) =
       let g : i < devicesOf s = omega (arith, a deviceCountWord (omega arith) (omega arith)) in
       asksDevice i flag g small (λ j lo hi. b j lo hi ∙ both-flagged i flag g j lo hi (eqb j (firstDeviceWord + i * deviceWords + deviceConfiguredPlace)) refl) k c w
     where
-      both-flagged : (i flag : ℕ) → i < devicesOf s → (j : ℕ) → deviceCountWord ≤ j → j < stateWords → (x : Bool) → eqb j (firstDeviceWord + i * deviceWords + deviceConfiguredPlace) ≡ x → getD (withDevice t i flag) j 0 ≡ getD (withDevice s i flag) j 0
+      both-flagged : (i flag : ℕ) → i < devicesOf s → (j : ℕ) → deviceCountWord ≤ j → j < idCountWord → (x : Bool) → eqb j (firstDeviceWord + i * deviceWords + deviceConfiguredPlace) ≡ x → getD (withDevice t i flag) j 0 ≡ getD (withDevice s i flag) j 0
       both-flagged i flag g j lo hi true z =
           let q = eqb-true j (firstDeviceWord + i * deviceWords + deviceConfiguredPlace) z in
           let most : i < mostDevices = omega (arith, device-facts s firstDeviceWord (devicesOf s) old .few) in

@@ -4,16 +4,16 @@ use mathlib.Core.Path.{_≡_, refl, sym, ap, _∙_, subst}
 use mathlib.Core.Bool.{Bool, true, false}
 use mathlib.Core.List.{List, [], _∷_}
 use mathlib.Core.Logic.{⊎-elim}
-use Prim.Native.Nat.{ℕ, zero, suc, _*_, _<_}
+use Prim.Native.Nat.{ℕ, zero, suc, _+_, _*_, _<_, _≤_}
 use native.Mathlib.Nat.{suc-mul, zero-mul, eq-or-lt-of-le, le-of-suc-le-suc, not-suc-le-zero}
 use native.Mathlib.Omega.{arith}
 use lib.ListN.{length, getD, set, length-append, length-set, List·getD-append}
 use lib.Seq.{getD-at, ext-getD, getD-set-same, getD-set-other}
 use lib.Dec.{eqb, ltb}
-use borrow.Author.Tests.{eqb-true, eqb-false, ltb-true, ltb-false}
+use borrow.Author.Tests.{eqb-true, eqb-false, ne-eqb, ltb-true, ltb-false}
 use Rattle.model.specs.declared.Found.{Found}
 use Rattle.model.specs.declared.Found.the-variants.{At, Nowhere}
-use Rattle.model.specs.Choice.{pick, _and_, _or_, every, orElse, firstBelow, isFound, tabulate, joined}
+use Rattle.model.specs.Choice.{pick, _and_, _or_, every, orElse, firstBelow, isFound, tabulate, clearedFrom, joined}
 
 -- Tests.
 pub clash : (b : Bool) → b ≡ false → b ≡ true → ⊥
@@ -135,6 +135,25 @@ module _ {A : Type 0} (f g : ℕ → A) (n : ℕ) (d : A) where
           ∙ other i h q
           ∙ sym (tabulate-at f n i d h)
           ∙ sym (getD-set-other (tabulate f n) k i v d q)
+
+-- values made d, from place k on
+pub tabulate-cleared : {A : Type 0} (f : ℕ → A) (n : ℕ) (d : A) (k m : ℕ) (g : ℕ → A) → ((i : ℕ) → i < n → k ≤ i → i < k + m → g i ≡ d) → ((i : ℕ) → i < n → (k ≤ i → i < k + m → ⊥) → g i ≡ f i) → tabulate g n ≡ clearedFrom d (tabulate f n) k m
+unfolding clearedFrom
+tabulate-cleared f n d k zero g at other = tabulate-same f g n d (λ i h. other i h (λ p q. omega arith))
+tabulate-cleared {A} f n d k (suc m) g at other =
+    tabulate-set before g n d (k + m) d (λ h. at (k + m) h (omega arith) (omega arith))
+    (λ i h q. sym (pick-false (eqb i (k + m)) (f i) (g i) (ne-eqb i (k + m) q)))
+    ∙ ap (λ (l : List A). set l (k + m) d)
+    (tabulate-cleared f n d k m before
+    (λ i h lo hi. pick-false (eqb i (k + m)) (f i) (g i) (ne-eqb i (k + m) (λ q. omega arith)) ∙ at i h lo (omega arith))
+    (λ i h out.
+    on-pick (λ (x : A). x ≡ f i) (eqb i (k + m)) (f i) (g i) (λ e. refl)
+    (λ e.
+    let apart = eqb-false i (k + m) e in
+    other i h (λ lo hi. ⊎-elim (λ (q : i ≡ k + m). apart q) (λ (l : i < k + m). out lo l) (eq-or-lt-of-le (omega arith))))))
+  where
+    before : ℕ → A
+    before i = pick (eqb i (k + m)) (f i) (g i)
 
 -- n lists of k elements each
 pub joined-length : (f : ℕ → List ℕ) (k n : ℕ) → ((i : ℕ) → length (f i) ≡ k) → length (joined f n) ≡ n * k

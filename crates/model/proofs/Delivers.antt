@@ -1,36 +1,38 @@
 -- Data reaches a service exactly when the view shows its handle registered on the channel, and reaches that service.
 -- Assumes nothing.
-use Prim.Native.Nat.{ℕ, _/_, _≤_, _<_}
+use Prim.Native.Nat.{ℕ, _+_, _*_, _/_, _%_, _≤_, _<_}
 use native.Mathlib.Omega.{arith}
 use mathlib.Core.Path.{_≡_, refl, sym, ap, _∙_}
-use mathlib.Core.Bool.{Bool, true, false}
+use mathlib.Core.Bool.{Bool, true, false, not}
 use mathlib.Core.List.{List, []}
-use lib.ListN.{length, drop}
+use lib.ListN.{length, getD, drop}
 use lib.Seq.{take-append-seam}
 use lib.Dec.{ltb, eqb}
-use borrow.Author.Tests.{eq-eqb, le-leb, ltb-true, ltb-false, eqb-true, eqb-false}
+use borrow.Author.Tests.{eq-eqb, ne-eqb, le-leb, ltb-true, ltb-false, eqb-true, eqb-false}
 use Rattle.wire.specs.BigEndian.{bytesOf, written}
 use Rattle.model.specs.Choice.{pick, _and_, _or_, firstBelow, isFound, isAt}
 use Rattle.model.specs.declared.Event.{Event}
 use Rattle.model.specs.declared.Found.{Found}
 use Rattle.model.specs.declared.Found.the-variants.{At, Nowhere}
 use Rattle.model.specs.declared.Message.the-variants.{Data}
-use Rattle.model.specs.Journal.{servedBy, answeredEvent, codeNone, dataRefusedEvent, deliveredEvent}
+use Rattle.model.specs.Journal.{servedBy, answeredEvent, codeNone, dataRefusedEvent, deliveredEvent, peerDataEvent, kindPeerData}
 use Rattle.model.specs.Messages.{Effect, DS-INV-HDL, closing, decoded, decodedByType, dsData, dsMessage, effect, mostPayload, nack, payloadFits, payloadLength, registeredAs, registeredFor, route, wellFormed, wholeMessage}
 use Rattle.model.specs.Memory.{memoryReply, Progress, answeredMemory, answering, answeringConfigure, answeringError, beginning, blocked, cancelling, configureReply, configuredBy, querying, reporting}
-use Rattle.model.specs.Calls.{act, accepted, allowed, dataFor, effectOf, heard, hears, inRange, outcome, pagesOf, receive, receiving, refusalOf, refused, routed}
+use Rattle.model.specs.Calls.{act, accepted, allowed, dataFor, peerData, effectOf, heard, hears, inRange, outcome, pagesOf, receive, receiving, refusalOf, refused, routed}
 use Rattle.model.specs.Devices.{namedDevice}
 use Rattle.model.specs.DeviceRequests.{operationOf, deviceNumber, deviceId, deviceType, deviceName, deviceReply, answeringDevice, askingDevice, deviceFor, answeredDevice}
 use Rattle.model.specs.Orders.{orderNumber, orderReply, notOrdered, ordering, orderingFor, answeredOrder}
-use Rattle.model.specs.Reading.{none, viewOf}
-use Rattle.model.specs.Demand3.{sameBytes, Delivers, WellFormedData, reached, replyOf, showsRegistered, showsService}
-use Rattle.model.proofs.Choice.{clash, on-pick, on-first, first-nowhere, both}
+use Rattle.model.specs.Peers.{topBit, isPeered, peeredAs, peerFor}
+use Rattle.model.specs.Reading.{none, viewOf, Peer, noPeer, peer, peerPlace, peersShown, hasHandle}
+use Rattle.model.specs.Demand3.{sameBytes, Delivers, WellFormedData, reached, reachedPeer, replyOf, showsRegistered, showsService, showsPeer}
+use Rattle.model.proofs.Choice.{clash, on-pick, on-first, first-nowhere, first-same, both, and-false-right, tabulate-at}
 use Rattle.model.proofs.Shown.{shows-service, shows-first}
 use Rattle.model.proofs.Rules.{Sound, live-rules}
+use Rattle.model.proofs.PeerTurns.{Registration, unpeered, peered, registrations}
 use Rattle.model.proofs.MemoryEffects.{on-memory, numbered}
 use Rattle.model.proofs.Calls.{Taken, taken, passed, on-act}
 use Rattle.model.proofs.Kept.{noted-is}
-use Rattle.model.specs.Layout.{channelCount, dataHeaderBytes, handleAt, memoryService, deviceService, shutdownService, panicService, placeCount, placeOf, readyAt, serviceCount, stageAt, stageRegistered, stateWords}
+use Rattle.model.specs.Layout.{channelCount, dataHeaderBytes, handleAt, memoryService, deviceService, shutdownService, panicService, placeCount, placeOf, readyAt, serviceCount, stageAt, stageRegistered, stateWords, mostIds, peeredAt, peerHandleAt, peerMinorAt}
 
 -- well-formed data is decoded as data under its handle
 pub data-decoded : (m : List ℕ) (handle : ℕ) → WellFormedData m handle → decoded m ≡ Data handle
@@ -229,10 +231,16 @@ module _ (s : List ℕ) (c handle : ℕ) where
   unfolding reachedBy
   none-tells e reply q = on-pick (λ x. x ≡ Nowhere) _ _ _ (λ _. refl) (λ _. q)
 
+  -- data that no service of ours is registered for
+  peer-tells : (x : Found) → reachedBy handle (peerData s c handle x) ≡ Nowhere
+  unfolding peerData
+  peer-tells (At p) = none-tells (peerDataEvent c) _ (unfold servedBy pick _and_ _or_ in refl)
+  peer-tells Nowhere = none-tells (dataRefusedEvent c handle) _ (unfold servedBy pick _and_ _or_ in refl)
+
   -- data, for the service that is found
   data-tells : (payload : List ℕ) (x : Found) → reachedBy handle (dataFor s c handle payload x) ≡ x
   unfolding dataFor
-  data-tells payload Nowhere = none-tells (dataRefusedEvent c handle) _ (unfold servedBy pick _and_ _or_ in refl)
+  data-tells payload Nowhere = peer-tells (peerFor s c handle)
   data-tells payload (At v) = go (eqb v memoryService) refl (eqb v deviceService) refl (eqb v shutdownService or eqb v panicService) refl
     where
       go : (b : Bool) → eqb v memoryService ≡ b → (d : Bool) → eqb v deviceService ≡ d → (o : Bool) → (eqb v shutdownService or eqb v panicService) ≡ o → reachedBy handle (routed s c handle payload v (route v)) ≡ At v
@@ -302,3 +310,116 @@ delivers s j c handle m out size d =
           exactly = ap isFound (tells ∙ sym same);
           thatOne = λ v l. ap (isAt v) tells ∙ found-one s g c handle v h l ∙ sym (shows-service s (g .base) c handle v h l);
         }
+
+-- The same of a peer's services.
+unfoldable pub reachedPeerBy : ℕ → Effect → Bool
+reachedPeerBy handle e = not (sameBytes (e .reply) (nack handle DS-INV-HDL)) and eqb (e .event .kind) kindPeerData
+
+peer-reached-of : (s j out : List ℕ) (pages : ℕ) (e : Effect) (t : Taken s j out e) (handle : ℕ) → reachedPeer handle (accepted s j out pages e) ≡ reachedPeerBy handle e
+unfolding reachedPeer reachedPeerBy
+peer-reached-of s j out pages e t handle = rw (reply-is s j out pages e, noted-is s j out pages e t)
+
+-- an entry of another kind
+other-kind : (handle : ℕ) (e : Effect) → (e .event .kind ≡ kindPeerData → ⊥) → reachedPeerBy handle e ≡ false
+unfolding reachedPeerBy
+other-kind handle e n = and-false-right _ _ (ne-eqb _ kindPeerData n)
+
+-- what reached one of our services is of another kind
+ours-other : (handle v : ℕ) (e : Effect) → reachedBy handle e ≡ At v → e .event .kind ≡ kindPeerData → ⊥
+unfolding reachedBy
+ours-other handle v e r k =
+    on-pick (λ (x : Found). x ≡ At v → ⊥) (sameBytes (e .reply) (nack handle DS-INV-HDL)) Nowhere (servedBy (e .event)) (λ _ q. no q)
+    (λ _ q. no (sym none ∙ q)) r
+  where
+    no : Nowhere ≡ At v → ⊥
+    no q = let z : _≡_ {A = ℕ} 0 1 = cc in omega arith
+
+    none : servedBy (e .event) ≡ Nowhere
+    none = unfold servedBy in (rw k (unfold pick _and_ _or_ in refl))
+
+module _ (s : List ℕ) (g : Sound s) (c handle : ℕ) (h : c < channelCount) where
+  -- a peer's handle lacks the top bit, and its channel is ready
+  peer-low : (p : ℕ) → p < mostIds → peeredAs s c handle p ≡ true → (handle < topBit) × (readyAt s c ≡ 1)
+  peer-low p l e =
+      let x = both _ _ e in
+      go (eqb-true _ 1 (x .0)) (eqb-true _ handle (x .1)) (registrations s (readyAt s c) c (g .peers c h) .each p l)
+    where
+      go : peeredAt s c p ≡ 1 → peerHandleAt s c p ≡ handle → Registration s (readyAt s c) c p → (handle < topBit) × (readyAt s c ≡ 1)
+      go m q (unpeered z) = absurd (omega arith)
+      go m q (peered y r i t n) = (rw q at t, r)
+
+  -- ours has it
+  no-peer-ours : (v : ℕ) → v < serviceCount → registeredAs s c handle v ≡ true → (p : ℕ) → p < mostIds → peeredAs s c handle p ≡ false
+  no-peer-ours v l e p b = go (peeredAs s c handle p) refl
+    where
+      go : (x : Bool) → peeredAs s c handle p ≡ x → x ≡ false
+      go false q = refl
+      go true q =
+          let a = live s g c handle v h l e in
+          let k : placeOf c v < placeCount = omega arith in
+          let u = live-rules _ _ _ _ _ (λ z. omega (arith, a .0)) (g .base .services (placeOf c v) k) .ours in
+          absurd (omega (arith, u .least, a .1, peer-low p b q .0))
+
+  no-peer-closed : eqb (readyAt s c) 1 ≡ false → (p : ℕ) → p < mostIds → peeredAs s c handle p ≡ false
+  no-peer-closed r p b = go (peeredAs s c handle p) refl
+    where
+      go : (x : Bool) → peeredAs s c handle p ≡ x → x ≡ false
+      go false q = refl
+      go true q = absurd (eqb-false _ 1 r (peer-low p b q .1))
+
+  found-none : ((p : ℕ) → p < mostIds → peeredAs s c handle p ≡ false) → false ≡ isFound (peerFor s c handle)
+  found-none n = unfold isFound in (rw (first-nowhere mostIds (peeredAs s c handle) n))
+
+  peer-data-tells : (x : Found) → reachedPeerBy handle (peerData s c handle x) ≡ isFound x
+  unfolding peerData isFound
+  peer-data-tells (At p) = unfold reachedPeerBy _and_ in (rw (empty-no-nack handle))
+  peer-data-tells Nowhere = other-kind handle (effect (dataRefusedEvent c handle) s (nack handle DS-INV-HDL)) (λ q. omega arith)
+
+  data-tells-peer : (payload : List ℕ) → reachedPeerBy handle (dataFor s c handle payload (registeredFor s c handle)) ≡ isFound (peerFor s c handle)
+  data-tells-peer payload =
+      on-first (λ x. reachedPeerBy handle (dataFor s c handle payload x) ≡ isFound (peerFor s c handle)) serviceCount (registeredAs s c handle)
+      (λ v r. other-kind handle (dataFor s c handle payload (At v)) (ours-other handle v _ (data-tells s c handle payload (At v))) ∙ found-none (no-peer-ours v (r .below) (r .passes)))
+      (λ _. unfold dataFor in (peer-data-tells (peerFor s c handle)))
+
+  receiving-tells-peer : (m : List ℕ) → decoded m ≡ Data handle → reachedPeerBy handle (receiving s c m) ≡ isFound (peerFor s c handle)
+  unfolding receiving heard hears
+  receiving-tells-peer m d =
+      rw d
+      (on-pick (λ (e : Effect). reachedPeerBy handle e ≡ isFound (peerFor s c handle)) _ _ _
+      (λ r. data-tells-peer _)
+      (λ r. other-kind handle (closing s c 1) closing-other ∙ found-none (no-peer-closed r)))
+    where
+      closing-other : closing s c 1 .event .kind ≡ kindPeerData → ⊥
+      closing-other = unfold closing in (λ q. omega arith)
+
+  -- what is shown is what is registered
+  shows-peered : (p : ℕ) → p < mostIds → hasHandle handle (getD (peersShown s) (peerPlace c p) noPeer) ≡ peeredAs s c handle p
+  unfolding peersShown
+  shows-peered p b =
+      let x : (c * mostIds + p) / mostIds ≡ c = omega arith in
+      let y : (c * mostIds + p) % mostIds ≡ p = omega arith in
+      ap (hasHandle handle) (tabulate-at _ (channelCount * mostIds) (peerPlace c p) noPeer (omega arith))
+      ∙ rw (x, y) (go (isPeered s c p))
+    where
+      go : (x : Bool) → hasHandle handle (pick x (peer (peerHandleAt s c p) (peerMinorAt s c p)) noPeer) ≡ (x and eqb (peerHandleAt s c p) handle)
+      go true = unfold hasHandle pick _and_ in refl
+      go false = unfold hasHandle pick _and_ in refl
+
+  shows-peer : showsPeer (peersShown s) c handle ≡ isFound (peerFor s c handle)
+  unfolding showsPeer
+  shows-peer = ap isFound (first-same mostIds (peeredAs s c handle) _ shows-peered)
+
+pub delivers-peer : (s j : List ℕ) (c handle : ℕ) (m out : List ℕ) → length s ≡ stateWords → WellFormedData m handle → outcome s j (act (receive c m) out) .refusal ≡ 0 → reachedPeer handle (outcome s j (act (receive c m) out)) ≡ showsPeer (peersShown s) c handle
+delivers-peer s j c handle m out size d =
+    on-act (λ r. r .refusal ≡ 0 → reachedPeer handle r ≡ showsPeer (peersShown s) c handle) s j out (receive c m)
+    (λ z _. yes-case z)
+    (λ n q. absurd (n (unfold refused in q)))
+  where
+    yes-case : refusalOf s j out (receive c m) ≡ 0 → reachedPeer handle (accepted s j out (pagesOf s (receive c m)) (effectOf s (receive c m))) ≡ showsPeer (peersShown s) c handle
+    yes-case z =
+        let t = taken s j out (receive c m) size z in
+        let g = t .given .facts in
+        let h = channel-within s j out c m z in
+        peer-reached-of s j out (pagesOf s (receive c m)) (effectOf s (receive c m)) t handle
+        ∙ unfold effectOf in (receiving-tells-peer s g c handle h m (data-decoded m handle d))
+        ∙ sym (shows-peer s g c handle h)

@@ -11,7 +11,7 @@ use Rattle.model.specs.Blocks.{Lists, acceptedLists, setupState}
 use Rattle.model.specs.Calls.{Outcome, started, effectOf}
 use Rattle.model.specs.Layout.{Device, devicesOf, firstDeviceWord, lastOf, withCounts}
 use Rattle.model.specs.Devices.{devicesKeep}
-use Rattle.model.specs.Reading.{View, reading, setupView, devicesShown, setupDevices, readDevices, readingDevices, Orders, ordersShown, setupOrders, readOrders, readingOrders}
+use Rattle.model.specs.Reading.{View, reading, setupView, devicesShown, setupDevices, readDevices, readingDevices, Orders, ordersShown, setupOrders, readOrders, readingOrders, Peer, peersShown, setupPeers, readPeers, readingPeers}
 use Rattle.entry.specs.declared.Fields.{Fields}
 use Rattle.entry.specs.Word.{unpacked}
 use Rattle.model.specs.Messages.{Effect}
@@ -22,10 +22,11 @@ use Rattle.model.proofs.Setup.{starts}
 use Rattle.model.proofs.Words.{counts-frame}
 use Rattle.model.proofs.Devices.{shown-same}
 use Rattle.model.proofs.Above.{turn-keeps, turn-shown, turn-ordered, orders-shown-same}
+use Rattle.model.proofs.Peers.{peers-shown-same}
 use Rattle.model.proofs.Ring.{fields-back}
 use Rattle.model.proofs.Calls.{Taken, taken}
 use Rattle.model.proofs.Lists.{Kept, AfterCall, grown, shifted, entries-grown, entries-shifted, meets-outcome, on-list}
-use Rattle.model.proofs.Delivers.{delivers}
+use Rattle.model.proofs.Delivers.{delivers, delivers-peer}
 use Rattle.model.specs.Journal.{Entry, entriesAt, entryOf}
 
 -- what a part of such a list meets
@@ -95,6 +96,12 @@ orders-first l r j e z =
     let f = at-first l r j e z in
     rw (f .state) (sym (starts l (f .accepted) .orders))
 
+peers-first : (l : Lists) (r : Started) (j : List ℕ) → SetupPost l r → r .refusal ≡ 0 → readingPeers setupPeers (entries (newRun (r .state) j)) ≡ peersShown (r .state)
+unfolding entries entriesAt readingPeers
+peers-first l r j e z =
+    let f = at-first l r j e z in
+    rw (f .state) (sym (starts l (f .accepted) .peers))
+
 -- up to each place of a list
 pub kept-meeting : (b : View) (u : Run) (ds : List Done) → AllMeet u ds → Kept b u → Kept b (runs u ds)
 kept-meeting b u ds m k =
@@ -153,6 +160,36 @@ orders-step b u k q = record {
         (unfold entryOf in (ap (λ (x : Fields). readOrders x (e .event .word) (ordersShown (u .state))) (fields-back (lastOf (u .state) + 1) (e .event) (t .good .entry .range))
         ∙ sym (unfold grown in (orders-counted (e .state) _ _) ∙ turn-ordered (u .state) (t .given .size) (t .given .facts .devices) e (lastOf (u .state) + 1) (t .good .above))))
 
+-- and the peer's registrations
+abbrev PeersRead : Run → Type 0
+PeersRead u = readingPeers setupPeers (entries u) ≡ peersShown (u .state)
+
+peers-append : (ps : List Peer) (es : List Entry) (e : Entry) → readingPeers ps (es ++ e ∷ []) ≡ readPeers (unpacked (e .first)) (e .second) (readingPeers ps es)
+unfolding readingPeers
+peers-append ps [] e = refl
+peers-append ps (x ∷ es) e = peers-append (readPeers (unpacked (x .first)) (x .second) ps) es e
+
+peers-counted : (s : List ℕ) (last held : ℕ) → peersShown (withCounts s last held) ≡ peersShown s
+peers-counted s last held = peers-shown-same s (withCounts s last held) (λ j lo hi. counts-frame s last held j (λ p q. omega arith))
+
+peers-step : (b : View) (u : Run) → Kept b u → PeersRead u → AfterCall PeersRead u
+peers-step b u k q = record {
+  onAct = λ a out z. grows (effectOf (u .state) a) out (taken (u .state) (u .journal) out a (k .size) z);
+  onDrain = λ n h. rw (entries-shifted b u n h k) (q ∙ sym (unfold shifted in (peers-counted (u .state) _ _)));
+  onRefusal = q;
+}
+  where
+    grows : (e : Effect) (out : List ℕ) → Taken (u .state) (u .journal) out e → readingPeers setupPeers (entries (grown u e)) ≡ peersShown (grown u e .state)
+    grows e out t =
+        rw (entries-grown b u e out k t, peers-append, q)
+        (unfold entryOf in (ap (λ (x : Fields). readPeers x (e .event .word) (peersShown (u .state))) (fields-back (lastOf (u .state) + 1) (e .event) (t .good .entry .range))
+        ∙ sym (unfold grown in (peers-counted (e .state) _ _) ∙ t .good .peers .reads (lastOf (u .state) + 1))))
+
+-- at each place of a list: the registrations read back by the entries before it
+peers-meeting : (l : Lists) (r : Started) (j : List ℕ) (ds : List Done) → SetupPost l r → r .refusal ≡ 0 → AllMeet (newRun (r .state) j) ds → PeersRead (runs (newRun (r .state) j) ds)
+peers-meeting l r j ds e z m =
+    on-list (setupView l) PeersRead (peers-step (setupView l)) (newRun (r .state) j) ds m (at-first l r j e z .kept) (peers-first l r j e z) .1
+
 pub demand3 : OfEveryList (λ l s j ds. Demand3 l s j ds (runs (newRun s j) ds))
 demand3 l r j ds e z m =
     let first = at-first l r j e z .kept in
@@ -170,6 +207,7 @@ demand3 l r j ds e z m =
           .1;
       readsOrders =
           on-list (setupView l) OrdersRead (orders-step (setupView l)) (newRun (r .state) j) ds m first (orders-first l r j e z) .1;
+      readsPeers = peers-meeting l r j ds e z m;
       delivers =
           λ before later c handle msg out o q d y.
           let m′ = rw q at m in
@@ -177,5 +215,14 @@ demand3 l r j ds e z m =
           let same = meets-outcome (meets-here (newRun (r .state) j) before _ later m′) in
           rw (b .listed .reads, same)
           (delivers (runs (newRun (r .state) j) before .state) (runs (newRun (r .state) j) before .journal) c handle msg out (b .size) d
+          (sym (ap (λ (x : Outcome). x .refusal) same) ∙ y));
+      deliversPeer =
+          λ before later c handle msg out o q d y.
+          let m′ = rw q at m in
+          let n = meets-before (newRun (r .state) j) before _ m′ in
+          let b = kept-meeting (setupView l) (newRun (r .state) j) before n first in
+          let same = meets-outcome (meets-here (newRun (r .state) j) before _ later m′) in
+          rw (peers-meeting l r j before e z n, same)
+          (delivers-peer (runs (newRun (r .state) j) before .state) (runs (newRun (r .state) j) before .journal) c handle msg out (b .size) d
           (sym (ap (λ (x : Outcome). x .refusal) same) ∙ y));
     }

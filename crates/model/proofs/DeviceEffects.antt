@@ -21,6 +21,7 @@ use Rattle.model.proofs.Choice.{on-pick, first-facts}
 use Rattle.model.proofs.Words.{device-frame, device-length}
 use Rattle.model.proofs.View.{counted-view}
 use Rattle.model.proofs.Devices.{device-facts, flag-few}
+use Rattle.model.proofs.Peers.{leavesPeers}
 use Rattle.model.proofs.Above.{asksDevice}
 use Rattle.model.proofs.Rules.{Given}
 use Rattle.model.proofs.Sounds.{base-same, removes-same}
@@ -97,6 +98,7 @@ module _ (s : List ℕ) (g : Given s) (c : ℕ) (h : ReachesDevices s c) where
             refl;
         need = device-needs _ _ c result i flag;
         above = asksDevice i flag l small (λ j lo hi. refl) refl refl refl;
+        peers = leavesPeers s (effect (deviceEvent c result i flag) (withDevice s i flag) reply) (g .facts .peers) (λ j lo hi. e j (λ p q. omega arith)) (λ j lo hi. e j (λ p q. omega arith)) (omega arith) (omega arith);
       }
 
   asking-good : (handle request : ℕ) (o : DeviceOperation) (i : ℕ) → o .configured ≤ 1 → i < devicesOf s → Good s (askingDevice s c handle request o i)

@@ -9,18 +9,19 @@ use mathlib.Core.List.{List, []}
 use lib.ListN.{length}
 use lib.Dec.{eqb, leb, ltb}
 use borrow.Author.Tests.{ltb-true, ltb-false, eqb-true, eqb-false, le-leb, not-true}
-use Rattle.model.specs.Choice.{pick, _or_}
+use Rattle.model.specs.Choice.{pick, _or_, clearedFrom}
 use Rattle.model.specs.declared.Event.{Event}
-use Rattle.model.specs.Layout.{placeOf, blockCountWord, lastWord, outstandingWord, channelCount, handleAt, highestMinor, highestNumber, lastOf, outputBytes, placeCount, readyAt, serviceCount, stageAt, stageIdle, stageOffered, stageRegistered, withChannel, withService, firstNumberedWord, heldOf, heldWord, firstHandleWord, firstStageWord, serviceWords, withNumber, deviceCountWord, stateWords}
+use Rattle.model.specs.Layout.{placeOf, blockCountWord, lastWord, outstandingWord, channelCount, handleAt, highestMinor, highestNumber, lastOf, outputBytes, placeCount, readyAt, serviceCount, stageAt, stageIdle, stageOffered, stageRegistered, withChannel, withService, firstNumberedWord, heldOf, heldWord, firstHandleWord, firstStageWord, serviceWords, withNumber, deviceCountWord, idCountWord, mostIds, stateWords}
 use Rattle.model.specs.State.{serviceSound, ourHandle}
 use Rattle.model.specs.Journal.{fieldsOf, closedEvent, notedEvent, offerRefusedEvent, offeredEvent, readyEvent, registeredEvent, serviceEndedEvent, versionRefusedEvent, kindNoted}
 use Rattle.model.specs.Messages.{Effect, effect, numbersAnew, acknowledged, closing, initiated, liveAs, liveFor, notAcknowledged, noting, offeredAs, offeredFor, offering, unregistered, withIdle, withRegistered, withdrawing, initAck}
-use Rattle.model.specs.Reading.{View, read, stageOf, seeChannel, seeService, viewOf}
+use Rattle.model.specs.Reading.{View, read, Peer, noPeer, peerPlace, readPeers, stageOf, seeChannel, seeService, viewOf}
 use Rattle.model.specs.Replay.{needed, isIdle, isOffered, isOfferedAs, isLive}
 use Rattle.model.proofs.Choice.{on-pick, on-first, both}
 use Rattle.model.proofs.View.{Shape, Moves, stays, then, turns, counted-view, service-moves, channel-moves}
 use Rattle.model.proofs.Words.{Agree, service-frame, channel-frame, number-frame, number-above, number-length}
 use Rattle.model.proofs.Above.{AboveTurn, leavesAbove, turn-back}
+use Rattle.model.proofs.Peers.{PeerTurn, leavesChannels, up-to-noted, leavesAsRead, peers-back, drops}
 use Rattle.model.proofs.Rules.{Given, Base, Removes, Live, live-rules, live-last, service-idle, base-later, removes-later}
 use Rattle.model.proofs.Sounds.{base-service, base-channel, removes-same, sound-same}
 use Rattle.model.proofs.Needs.{ready-needs, closed-needs, version-needs, offered-needs, registered-needs, refused-needs, ended-needs, noted-needs}
@@ -47,6 +48,7 @@ pub record Good (s : List ℕ) (e : Effect) : Type 0 where
   -- what its entry needs is shown
   pub need : neededBy s (e .event)
   pub above : AboveTurn s e
+  pub peers : PeerTurn s e
 
 module _ (s : List ℕ) (g : Given s) where
   -- the state itself, for the next number
@@ -63,7 +65,7 @@ module _ (s : List ℕ) (g : Given s) where
   removes-now = removes-later s (lastOf s) (lastOf s + 1) (omega arith) (g .facts .removal)
 
   -- Nothing changed.
-  pub unchanged : (e : Event) (reply : List ℕ) → Fits (lastOf s + 1) e → ((v : View) → readBy s e v ≡ v) → length reply ≤ outputBytes → aside (e .kind) ≡ true → leb (e .kind) kindNoted ≡ true → neededBy s e → Good s (effect e s reply)
+  pub unchanged : (e : Event) (reply : List ℕ) → Fits (lastOf s + 1) e → ((v : View) → readBy s e v ≡ v) → length reply ≤ outputBytes → aside (e .kind) ≡ true → leavesChannels (e .kind) ≡ true → neededBy s e → Good s (effect e s reply)
   unchanged e reply f r short a d n = record {
     entry = f;
     moves = turns (readBy s e) (stays s) (sym (r (viewOf s)));
@@ -72,11 +74,12 @@ module _ (s : List ℕ) (g : Given s) where
     removal = removes-now;
     turn = leaves (same-blocks s s (g .facts .base .few) (λ j lo hi. refl)) (same-removal s s (λ j lo hi. refl)) a;
     need = n;
-    above = leavesAbove (λ j lo hi. refl) d;
+    above = leavesAbove (λ j lo hi. refl) (up-to-noted (e .kind) d);
+    peers = leavesAsRead s (effect e s reply) (g .facts .peers) (λ j lo hi. refl) (λ j lo hi. refl) d;
   }
 
   -- One service changed: it is sound by itself, and where it is live no other live service has its handle.
-  pub service-changed : (e : Event) (reply : List ℕ) (k stage handle minor : ℕ) → k < placeCount → Fits (lastOf s + 1) e → ((v : View) → readBy s e v ≡ seeService k (stageOf stage handle minor) v) → length reply ≤ outputBytes → serviceSound stage handle minor (readyAt s (k / serviceCount)) (lastOf s + 1) ≡ true → ((j : ℕ) → j < placeCount → (j ≡ k → ⊥) → (stageAt s j ≡ stageIdle → ⊥) → (stage ≡ stageIdle → ⊥) → handleAt s j ≡ handle → ⊥) → aside (e .kind) ≡ true → leb (e .kind) kindNoted ≡ true → neededBy s e → Good s (effect e (withService s k stage handle minor) reply)
+  pub service-changed : (e : Event) (reply : List ℕ) (k stage handle minor : ℕ) → k < placeCount → Fits (lastOf s + 1) e → ((v : View) → readBy s e v ≡ seeService k (stageOf stage handle minor) v) → length reply ≤ outputBytes → serviceSound stage handle minor (readyAt s (k / serviceCount)) (lastOf s + 1) ≡ true → ((j : ℕ) → j < placeCount → (j ≡ k → ⊥) → (stageAt s j ≡ stageIdle → ⊥) → (stage ≡ stageIdle → ⊥) → handleAt s j ≡ handle → ⊥) → aside (e .kind) ≡ true → leavesChannels (e .kind) ≡ true → neededBy s e → Good s (effect e (withService s k stage handle minor) reply)
   service-changed e reply k stage handle minor b f r short ok fresh a d n =
       let w = service-frame s k stage handle minor in
       let low : Agree s (withService s k stage handle minor) blockCountWord lastWord = λ j lo hi. w j (λ p q. omega arith) in
@@ -90,15 +93,16 @@ module _ (s : List ℕ) (g : Given s) where
             removes-same s (withService s k stage handle minor) (lastOf s + 1) (g .facts .base .few) low high removes-now;
         turn = leaves (same-blocks s (withService s k stage handle minor) (g .facts .base .few) low) (same-removal s (withService s k stage handle minor) high) a;
         need = n;
-        above = leavesAbove (λ j lo hi. w j (λ p q. omega arith)) d;
+        above = leavesAbove (λ j lo hi. w j (λ p q. omega arith)) (up-to-noted (e .kind) d);
+        peers = leavesAsRead s (effect e (withService s k stage handle minor) reply) (g .facts .peers) (λ j lo hi. w j (λ p q. omega arith)) (λ j lo hi. w j (λ p q. omega arith)) d;
       }
 
   -- A channel closed or made ready, its services idle.
-  pub channel-changed : (e : Event) (reply : List ℕ) (c ready : ℕ) → c < channelCount → ready ≤ 1 → Fits (lastOf s + 1) e → ((v : View) → readBy s e v ≡ seeChannel c (eqb ready 1) v) → length reply ≤ outputBytes → aside (e .kind) ≡ true → leb (e .kind) kindNoted ≡ true → neededBy s e → Good s (effect e (withChannel s c ready) reply)
-  channel-changed e reply c ready b small f r short a d n =
+  pub channel-changed : (e : Event) (reply : List ℕ) (c ready : ℕ) → c < channelCount → ready ≤ 1 → Fits (lastOf s + 1) e → ((v : View) → readBy s e v ≡ seeChannel c (eqb ready 1) v) → length reply ≤ outputBytes → aside (e .kind) ≡ true → leb (e .kind) kindNoted ≡ true → ((number : ℕ) (ps : List Peer) → readPeers (fieldsOf number e) (e .word) ps ≡ clearedFrom noPeer ps (peerPlace c 0) mostIds) → neededBy s e → Good s (effect e (withChannel s c ready) reply)
+  channel-changed e reply c ready b small f r short a d x n =
       let w = channel-frame s c ready in
-      let low : Agree s (withChannel s c ready) blockCountWord lastWord = λ j lo hi. w j (λ q. omega arith) (λ p q. omega arith) in
-      let high : Agree s (withChannel s c ready) outstandingWord firstNumberedWord = λ j lo hi. w j (λ q. omega arith) (λ p q. omega arith) in
+      let low : Agree s (withChannel s c ready) blockCountWord lastWord = λ j lo hi. w j (λ q. omega arith) (λ p q. omega arith) (omega arith) in
+      let high : Agree s (withChannel s c ready) outstandingWord firstNumberedWord = λ j lo hi. w j (λ q. omega arith) (λ p q. omega arith) (omega arith) in
       record {
         entry = f;
         moves = turns (readBy s e) (channel-moves s shape c ready b) (sym (r (viewOf s)));
@@ -108,11 +112,12 @@ module _ (s : List ℕ) (g : Given s) where
             removes-same s (withChannel s c ready) (lastOf s + 1) (g .facts .base .few) low high removes-now;
         turn = leaves (same-blocks s (withChannel s c ready) (g .facts .base .few) low) (same-removal s (withChannel s c ready) high) a;
         need = n;
-        above = leavesAbove (λ j lo hi. w j (λ q. omega arith) (λ p q. omega arith)) d;
+        above = leavesAbove (λ j lo hi. w j (λ q. omega arith) (λ p q. omega arith) (omega arith)) d;
+        peers = drops s (g .size) c ready b e reply (g .facts .peers) x;
       }
 
   -- a service becomes idle
-  idled : (e : Event) (reply : List ℕ) (c v : ℕ) → c < channelCount → v < serviceCount → Fits (lastOf s + 1) e → ((x : View) → readBy s e x ≡ seeService (placeOf c v) (stageOf stageIdle 0 0) x) → length reply ≤ outputBytes → aside (e .kind) ≡ true → leb (e .kind) kindNoted ≡ true → neededBy s e → Good s (effect e (withIdle s c v) reply)
+  idled : (e : Event) (reply : List ℕ) (c v : ℕ) → c < channelCount → v < serviceCount → Fits (lastOf s + 1) e → ((x : View) → readBy s e x ≡ seeService (placeOf c v) (stageOf stageIdle 0 0) x) → length reply ≤ outputBytes → aside (e .kind) ≡ true → leavesChannels (e .kind) ≡ true → neededBy s e → Good s (effect e (withIdle s c v) reply)
   idled e reply c v h l f r short a d n =
       service-changed e reply (placeOf c v) stageIdle 0 0 (omega arith) f r short
       (service-idle stageIdle 0 0 _ (lastOf s + 1) refl)
@@ -125,7 +130,7 @@ module _ (s : List ℕ) (g : Given s) where
   pub closing-good : (c by : ℕ) → c < channelCount → Good s (closing s c by)
   unfolding closing read pick fieldsOf aside _or_
   closing-good c by h =
-      channel-changed (closedEvent c by) [] c 0 h (omega arith) (closed-fits _ c next-number h by) (λ v. refl) short-empty refl refl (closed-needs _ _ c by)
+      channel-changed (closedEvent c by) [] c 0 h (omega arith) (closed-fits _ c next-number h by) (λ v. refl) short-empty refl refl (λ number ps. unfold readPeers in refl) (closed-needs _ _ c by)
 
   pub initiated-good : (c major : ℕ) → c < channelCount → major ≤ highestMinor → Good s (initiated s c major)
   unfolding initiated
@@ -133,13 +138,14 @@ module _ (s : List ℕ) (g : Given s) where
       on-pick (Good s) _ _ _
       (λ e.
       unfold read pick fieldsOf aside _or_ in
-      (channel-changed (readyEvent c) (initAck 0) c 1 h (omega arith) (ready-fits _ c next-number h) (λ v. refl) (initAck-short 0) refl refl (ready-needs _ _ c)))
+      (channel-changed (readyEvent c) (initAck 0) c 1 h (omega arith) (ready-fits _ c next-number h) (λ v. refl) (initAck-short 0) refl refl (λ number ps. unfold readPeers in refl) (ready-needs _ _ c)))
       (λ e.
       channel-changed (versionRefusedEvent c major) _ c 0 h (omega arith) (version-fits _ c next-number h major m)
       (λ v. unfold read pick fieldsOf in refl)
       (initNack-short _)
       (unfold aside _or_ in refl)
       refl
+      (λ number ps. unfold readPeers pick _or_ fieldsOf in refl)
       (version-needs _ _ c major))
 
   pub noting-good : (c type : ℕ) (reply : List ℕ) → c < channelCount → readyAt s c ≡ 1 → length reply ≤ outputBytes → Good s (noting s c type reply)
@@ -184,17 +190,11 @@ module _ (s : List ℕ) (g : Given s) where
       (λ _. unfold notAcknowledged in (noting-good c _ [] h ready short-empty))
 
   -- 7, of UNREG and of withdraw
-  ended-good : (c v : ℕ) (reply : List ℕ) → c < channelCount → readyAt s c ≡ 1 → v < serviceCount → (stageAt s (placeOf c v) ≡ stageIdle → ⊥) → length reply ≤ outputBytes → Good s (effect (serviceEndedEvent c v) (withIdle s c v) reply)
+  pub ended-good : (c v : ℕ) (reply : List ℕ) → c < channelCount → readyAt s c ≡ 1 → v < serviceCount → (stageAt s (placeOf c v) ≡ stageIdle → ⊥) → length reply ≤ outputBytes → Good s (effect (serviceEndedEvent c v) (withIdle s c v) reply)
   unfolding read pick fieldsOf stageOf aside _or_
   ended-good c v reply h ready l live f =
       idled (serviceEndedEvent c v) reply c v h l (ended-fits _ c next-number h v l) (λ x. refl) f refl refl
       (ended-needs _ _ c v (shows-open s c h ready) (shows-test s c h v l isLive (live-here s (placeOf c v) live)))
-
-  pub unregistered-good : (c handle : ℕ) → c < channelCount → readyAt s c ≡ 1 → Good s (unregistered s c handle (liveFor s c handle))
-  unregistered-good c handle h ready =
-      on-first (λ x. Good s (unregistered s c handle x)) serviceCount (liveAs s c handle)
-      (λ v r. unfold unregistered in (ended-good c v _ h ready (r .below) (eqb-false _ stageIdle (not-true _ (both _ _ (r .passes) .0))) (unregAck-short handle)))
-      (λ _. unfold unregistered in (noting-good c _ _ h ready (unregNack-short handle)))
 
   -- 4: the handle is above every other
   pub offering-good : (c v : ℕ) → c < channelCount → v < serviceCount → readyAt s c ≡ 1 → stageAt s (placeOf c v) ≡ stageIdle → Good s (offering s c v)
@@ -277,7 +277,8 @@ module _ (s t : List ℕ) (n : OnlyNumbers s t) (g : Given s) where
         (same-removal s t (λ j lo hi. n .below j (omega arith) hi))
         (x .turn);
     need = rw (numbers-moves .view, last-numbers) at (x .need);
-    above = turn-back s (g .size) (g .facts .devices) t e (n .size ∙ g .size) (n .above) (x .above);
+    above = turn-back s (g .size) (g .facts .devices) t e (n .size ∙ g .size) (λ j lo hi. n .above j lo (omega arith)) (x .above);
+    peers = peers-back s t e (λ j lo hi. n .above j (omega arith) hi) (x .peers);
   }
 
   pub reaches-numbers : (c : ℕ) → Reaches s c → Reaches t c

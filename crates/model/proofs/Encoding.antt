@@ -3,7 +3,7 @@
 use mathlib.Core.Path.{_≡_, refl, ap, _∙_}
 use mathlib.Core.Bool.{Bool, true, false, not}
 use mathlib.Core.List.{List, [], _∷_}
-use Prim.Native.Nat.{ℕ, zero, suc, _+_, _*_, _/_, _<_, _≤_}
+use Prim.Native.Nat.{ℕ, zero, suc, _+_, _*_, _/_, _%_, _<_, _≤_}
 use native.Mathlib.Omega.{arith}
 use lib.ListN.{length, getD, getD-replicate}
 use lib.Seq.{sets, length-sets}
@@ -12,19 +12,22 @@ use borrow.Author.Tests.{le-leb, lt-ltb, eq-eqb, ne-eqb, eqb-true, eqb-false}
 use Rattle.model.specs.Choice.{pick, every, _and_, _or_, firstBelow, tabulate}
 use Rattle.model.specs.declared.Found.the-variants.{At}
 use Rattle.model.specs.declared.Removal.{Removal}
-use Rattle.model.specs.Layout.{blockAt, blockIn, blockWords, channelCount, placeCount, serviceCount, firstBlockWord, lastOf, outstandingOf, stageAt, handleAt, minorAt, readyAt, stageIdle, stageRegistered, wordOf, isSet, removalOf, heldOf, withRemoval, firstStageWord, serviceWords, stateWords, blockCountWord, lastWord, heldWord, outstandingWord, mostRecords, firstNumberedWord, deviceCountWord, firstDeviceWord, deviceConfiguredPlace, deviceWords, namePlace, nameBytesIn, deviceIn, devicesOf, firstPermissionWord, orderShutdown, orderPanic, highestDelay}
+use Rattle.model.specs.Layout.{blockAt, blockIn, blockWords, channelCount, placeCount, serviceCount, firstBlockWord, lastOf, outstandingOf, stageAt, handleAt, minorAt, readyAt, stageIdle, stageRegistered, wordOf, isSet, removalOf, heldOf, withRemoval, firstStageWord, serviceWords, stateWords, blockCountWord, lastWord, heldWord, outstandingWord, mostRecords, firstNumberedWord, deviceCountWord, firstDeviceWord, deviceConfiguredPlace, deviceWords, namePlace, nameBytesIn, deviceIn, devicesOf, firstPermissionWord, orderShutdown, orderPanic, highestDelay, mostIds, idWords, idPlace, idMinorPlace, idCountWord, firstIdWord, firstPeerWord, peerWords, idsOf, idIn, idBytesIn, peeredAt, peerHandleAt, peerMinorAt}
 use Rattle.model.specs.Devices.{wordsHolding, deviceKeeps, devicesKeep}
 use Rattle.model.specs.Blocks.{setupState, endOf, endBefore, names, namedBlock}
+use Rattle.model.specs.Peers.{idsKeep, peersBelow, peersSound}
 use Rattle.model.specs.State.{serviceSound, roomAt, removalRoom, collectedSound, resultSound, resultsSound, ordersSound, sound}
-use Rattle.model.specs.Reading.{Stage, idle, offered, registered, Order, noOrder, shutdown, panic}
+use Rattle.model.specs.Reading.{Stage, idle, offered, registered, Order, noOrder, shutdown, panic, Peer, noPeer, peer}
 use Rattle.model.proofs.OrderEffects.{order-test}
-use Rattle.model.specs.Encoding.{Told, LiveAs, isOffered, isRegistered, blockTold, CollectedTold, nothing, below, ResultTold, ok, nowork, RemovalTold, SoundTold, SaysService, SaysRemoval, Says, stageTold, handleTold, minorTold, servicesTold, removalTold, SaysOrder, orderTold, delayTold, ordersTold, lowTold, wordsTold, EncodingHolds}
+use Rattle.model.specs.Encoding.{Told, LiveAs, isOffered, isRegistered, blockTold, CollectedTold, nothing, below, ResultTold, ok, nowork, RemovalTold, SoundTold, SaysService, SaysRemoval, Says, stageTold, handleTold, minorTold, servicesTold, removalTold, SaysOrder, orderTold, delayTold, ordersTold, PeerTold, markTold, peersCount, SaysPeer, peerWordTold, peersTold, lowTold, wordsTold, EncodingHolds}
 use Rattle.model.proofs.Choice.{clash, every-make, first-same, first-facts, pick-true, pick-false, tabulate-at, tabulate-length}
 use Rattle.model.proofs.Words.{Arrays, sets-below, sets-above, sets-at, service-frame, service-length, service-word, counts-frame, counts-length, last-counts, held-counts, removal-frame, removal-above, removal-length, removal-back, head-back}
 use Rattle.model.proofs.View.{block-same}
 use Rattle.model.proofs.Rules.{sound-test, service-idle, live-last, Live, Apart, Base, Outstanding, RemovalFacts, Removes}
 use Rattle.model.proofs.Devices.{devices-keep, device-facts, flag-few, name-few}
-use Rattle.model.proofs.Setup.{WholeLists, whole-lists, setup-length, high as setup-high, count as setup-count, block as setup-block, device-count as setup-devices, device-given as setup-device}
+use Rattle.model.proofs.Peers.{id-facts, id-few, ids-keep}
+use Rattle.model.proofs.PeerTurns.{Registration, unpeered, peered, registrations-test}
+use Rattle.model.proofs.Setup.{WholeLists, whole-lists, setup-length, high as setup-high, count as setup-count, block as setup-block, device-count as setup-devices, device-given as setup-device, id-count as setup-ids, id-words as setup-id}
 
 flag : (b : Bool) → wordOf b ≤ 1
 flag true = omega arith
@@ -149,7 +152,7 @@ module _ (s : List ℕ) (t : Told) (w : Says s t) (f : SoundTold t) where
     removal-said : RemovalFacts s (lastOf s) (removalOf s)
     removal-said = record {
       channels = rw (r .channel) (g .channels);
-      handles = record { least = omega arith; most = rw (r .handle, w .last) (g .handles) };
+      handles = record { least = rw (r .handle) (g .ours); most = rw (r .handle, w .last) (g .handles) };
       some = rw (r .count) (g .some);
       few = rw (r .count) (g .few);
       within = rw (r .position, r .count) (g .within);
@@ -207,6 +210,51 @@ orders-said s t w f =
       delay = delay-fits _ _ (t .orders .order) (f .delays) (w .order);
     })
 
+-- the words say accepted ids
+ids-said : (s : List ℕ) (t : Told) → Says s t → SoundTold t → idsKeep s firstIdWord (idsOf s) ≡ true
+ids-said s t w f =
+    let d = whole-lists (t .lists) (f .lists) .ids in
+    rw (w .ids) (ids-keep (t .lists .ids) s 0 firstIdWord (length (t .lists .ids) / idWords) (λ p h j g. w .id p h j g) (d .keeps))
+
+-- and sound peer registrations
+module _ (s : List ℕ) (t : Told) (w : Says s t) (f : SoundTold t) (c : ℕ) (h : c < channelCount) where
+  mark-said : (mark handle minor : ℕ) (x : Peer) → SaysPeer mark handle minor x → mark ≡ markTold x
+  unfolding SaysPeer markTold
+  mark-said mark handle minor noPeer e = e
+  mark-said mark handle minor (peer a b) e = e .0
+
+  peers-count : (n : ℕ) → n ≤ mostIds → peersBelow s c n ≡ peersCount (t .peers c) n
+  unfolding peersBelow peersCount
+  peers-count zero b = refl
+  peers-count (suc n) b = rw (peers-count n (omega arith), mark-said _ _ _ (t .peers c n) (w .peer c n h (omega arith)))
+
+  peer-said : (p : ℕ) → p < mostIds → (x : Peer) → t .peers c p ≡ x → SaysPeer (peeredAt s c p) (peerHandleAt s c p) (peerMinorAt s c p) x → Registration s (readyAt s c) c p
+  unfolding SaysPeer
+  peer-said p b noPeer e q = unpeered q
+  peer-said p b (peer handle minor) e q =
+      let x = f .peers c p handle minor h b e in
+      let short : (0 < idPlace + wordsHolding (idBytesIn (t .lists .ids) 0 p)) = omega arith in
+      peered (q .0) (w .ready c h ∙ ap wordOf (x .onReady)) (rw (w .ids) (x .listed)) (rw (q .1) (x .low))
+      (rw (q .2) (unfold idIn in (rw (w .id p (x .listed) idMinorPlace (omega arith)) (unfold idIn in (x .most)))))
+
+  -- a mark is of a registration under the handle that the words have
+  marked : (p : ℕ) → p < mostIds → peeredAt s c p ≡ 1 → (x : Peer) → SaysPeer (peeredAt s c p) (peerHandleAt s c p) (peerMinorAt s c p) x → x ≡ peer (peerHandleAt s c p) (peerMinorAt s c p)
+  unfolding SaysPeer
+  marked p b m noPeer q = absurd (omega arith)
+  marked p b m (peer handle minor) q = rw (q .1, q .2)
+
+  peers-said : peersSound s (readyAt s c) c ≡ true
+  peers-said =
+      registrations-test s (readyAt s c) c
+      (record {
+        each = λ p b. peer-said p b (t .peers c p) refl (w .peer c p h b);
+        apart = λ q p l b m n e.
+            f .peersDiffer c q p (peerHandleAt s c q) (peerMinorAt s c q) (peerMinorAt s c p) h l b
+            (marked q (omega arith) m (t .peers c q) (w .peer c q h (omega arith)))
+            (rw e (marked p b n (t .peers c p) (w .peer c p h b)));
+        few = rw (peers-count mostIds (omega arith)) (f .peersFew c h);
+      })
+
 accepted-said : (s : List ℕ) (t : Told) → Says s t → SoundTold t → sound s ≡ true
 accepted-said s t w f =
     sound-test s
@@ -220,6 +268,8 @@ accepted-said s t w f =
       };
       devices = devices-said s t w f;
       orders = orders-said s t w f;
+      ids = ids-said s t w f;
+      peers = λ c h. peers-said s t w f c h;
     })
 
 -- The words of a state. Those of a service:
@@ -264,13 +314,24 @@ module _ (t : Told) (f : SoundTold t) where
   flags : List ℕ
   flags = tabulate (λ c. wordOf (t .ready c)) channelCount
 
-  -- setup's words with the permissions and the order
+  -- setup's words with the permissions and the order, and with the peer registrations
+  permitted : List ℕ
+  permitted = sets (setupState (t .lists)) firstPermissionWord (ordersTold (t .orders))
+
+  permitted-length : length permitted ≡ stateWords
+  unfolding permitted
+  permitted-length = length-sets (setupState (t .lists)) firstPermissionWord (ordersTold (t .orders)) ∙ setup-length (t .lists) whole
+
   ordered : List ℕ
-  ordered = sets (setupState (t .lists)) firstPermissionWord (ordersTold (t .orders))
+  ordered = sets permitted firstPeerWord (peersTold (t .peers))
 
   ordered-length : length ordered ≡ stateWords
   unfolding ordered
-  ordered-length = length-sets (setupState (t .lists)) firstPermissionWord (ordersTold (t .orders)) ∙ setup-length (t .lists) whole
+  ordered-length = length-sets permitted firstPeerWord (peersTold (t .peers)) ∙ permitted-length
+
+  peers-length : length (peersTold (t .peers)) ≡ channelCount * peerWords
+  unfolding peersTold
+  peers-length = tabulate-length _ (channelCount * peerWords)
 
   opened : List ℕ
   opened = sets ordered 0 flags
@@ -284,16 +345,30 @@ module _ (t : Told) (f : SoundTold t) where
   opened-over j h =
       sets-above ordered flags 0 j (omega (arith, tabulate-length (λ (c : ℕ). wordOf (t .ready c)) channelCount))
 
+  -- below the peers' words
+  opened-below : (j : ℕ) → channelCount ≤ j → j < firstPeerWord → getD opened j 0 ≡ getD permitted j 0
+  opened-below j h g = opened-over j h ∙ unfold ordered in (sets-below permitted (peersTold (t .peers)) firstPeerWord j g)
+
   opened-above : (j : ℕ) → channelCount ≤ j → j < firstPermissionWord → getD opened j 0 ≡ getD (setupState (t .lists)) j 0
-  opened-above j h g = opened-over j h ∙ unfold ordered in (sets-below (setupState (t .lists)) (ordersTold (t .orders)) firstPermissionWord j g)
+  opened-above j h g = opened-below j h (omega arith) ∙ unfold permitted in (sets-below (setupState (t .lists)) (ordersTold (t .orders)) firstPermissionWord j g)
+
+  opened-ids : (j : ℕ) → idCountWord ≤ j → j < firstPeerWord → getD opened j 0 ≡ getD (setupState (t .lists)) j 0
+  opened-ids j h g =
+      opened-below j (omega arith) g
+      ∙ unfold permitted ordersTold in (sets-above (setupState (t .lists)) (ordersTold (t .orders)) firstPermissionWord j (omega arith))
 
   opened-orders : (i : ℕ) → i < 4 → getD opened (firstPermissionWord + i) 0 ≡ getD (ordersTold (t .orders)) i 0
   opened-orders i h =
-      opened-over (firstPermissionWord + i) (omega arith)
-      ∙ unfold ordered ordersTold in (sets-at (setupState (t .lists)) (ordersTold (t .orders)) firstPermissionWord i (omega arith) (omega (arith, setup-length (t .lists) whole)))
+      opened-below (firstPermissionWord + i) (omega arith) (omega arith)
+      ∙ unfold permitted ordersTold in (sets-at (setupState (t .lists)) (ordersTold (t .orders)) firstPermissionWord i (omega arith) (omega (arith, setup-length (t .lists) whole)))
+
+  opened-peers : (i : ℕ) → i < channelCount * peerWords → getD opened (firstPeerWord + i) 0 ≡ getD (peersTold (t .peers)) i 0
+  opened-peers i h =
+      opened-over (firstPeerWord + i) (omega arith)
+      ∙ unfold ordered in (sets-at permitted (peersTold (t .peers)) firstPeerWord i (omega (arith, peers-length)) (omega (arith, peers-length, permitted-length)))
 
   opened-at : (c : ℕ) → c < channelCount → getD opened c 0 ≡ wordOf (t .ready c)
-  unfolding opened ordered flags
+  unfolding opened ordered permitted flags
   opened-at c h =
       ap (λ (j : ℕ). getD (sets ordered 0 flags) j 0) (omega arith)
       ∙ sets-at ordered flags 0 c
@@ -309,17 +384,17 @@ module _ (t : Told) (f : SoundTold t) where
   served-length = services-length (t .service) opened placeCount ∙ opened-length
 
   low-length : length (lowTold t) ≡ stateWords
-  unfolding lowTold served opened ordered flags
+  unfolding lowTold served opened ordered permitted flags
   low-length = counts-length served (t .last) (t .held) ∙ served-length
 
   -- all but the services and the counts
   low-frame : (j : ℕ) → (firstStageWord ≤ j → j < blockCountWord → ⊥) → (lastWord ≤ j → j < lastWord + 2 → ⊥) → getD (lowTold t) j 0 ≡ getD opened j 0
-  unfolding lowTold served opened ordered flags
+  unfolding lowTold served opened ordered permitted flags
   low-frame j p q =
       counts-frame served (t .last) (t .held) j q ∙ services-frame (t .service) opened placeCount j (λ a b. p a (omega arith))
 
   low-service : (k i : ℕ) → k < placeCount → i < serviceWords → getD (lowTold t) (firstStageWord + k * serviceWords + i) 0 ≡ getD (stageTold (t .service k) ∷ handleTold (t .service k) ∷ minorTold (t .service k) ∷ []) i 0
-  unfolding lowTold served opened ordered flags
+  unfolding lowTold served opened ordered permitted flags
   low-service k i h b =
       counts-frame served (t .last) (t .held) (firstStageWord + k * serviceWords + i) (λ p q. omega arith)
       ∙ services-word (t .service) opened placeCount (omega arith) opened-length k h i b
@@ -372,6 +447,38 @@ module _ (t : Told) (f : SoundTold t) where
       let few = whole .devices .few in
       words-given (firstDeviceWord + i * deviceWords + j) (omega arith) (omega arith) ∙ setup-device (t .lists) whole i h j (omega arith)
 
+  -- the ids' are setup's, and those of peers
+  words-ids : (j : ℕ) → idCountWord ≤ j → j < firstPeerWord → getD (wordsTold t) j 0 ≡ getD (setupState (t .lists)) j 0
+  words-ids j h g = words-high j (omega arith) ∙ low-frame j (λ p q. omega arith) (λ p q. omega arith) ∙ opened-ids j h g
+
+  words-id : (p : ℕ) → p < length (t .lists .ids) / idWords → (j : ℕ) → j < idPlace + wordsHolding (idBytesIn (t .lists .ids) 0 p) → getD (wordsTold t) (firstIdWord + p * idWords + j) 0 ≡ getD (t .lists .ids) (0 + p * idWords + j) 0
+  words-id p h j g =
+      let short = id-few (t .lists .ids) 0 p (id-facts (t .lists .ids) 0 (length (t .lists .ids) / idWords) (whole .ids .keeps) .keeps p h) in
+      let few = whole .ids .few in
+      words-ids (firstIdWord + p * idWords + j) (omega arith) (omega arith) ∙ setup-id (t .lists) whole p h j g
+
+  told-at : (c p part : ℕ) → c < channelCount → p < mostIds → part < 3 → getD (peersTold (t .peers)) (c * peerWords + part * mostIds + p) 0 ≡ peerWordTold (t .peers c p) part
+  unfolding peersTold
+  told-at c p part h b l =
+      let x : (c * peerWords + part * mostIds + p) / peerWords ≡ c = omega arith in
+      let y : (c * peerWords + part * mostIds + p) % mostIds ≡ p = omega arith in
+      let z : (c * peerWords + part * mostIds + p) % peerWords / mostIds ≡ part = omega arith in
+      tabulate-at (λ j. peerWordTold (t .peers (j / peerWords) (j % mostIds)) (j % peerWords / mostIds)) (channelCount * peerWords) (c * peerWords + part * mostIds + p) 0 (omega arith)
+      ∙ rw (x, y, z)
+
+  words-peer : (c p part j : ℕ) → c < channelCount → p < mostIds → part < 3 → j ≡ firstPeerWord + (c * peerWords + part * mostIds + p) → getD (wordsTold t) j 0 ≡ peerWordTold (t .peers c p) part
+  words-peer c p part j h b l e =
+      rw e
+      (words-high (firstPeerWord + (c * peerWords + part * mostIds + p)) (omega arith)
+      ∙ low-frame (firstPeerWord + (c * peerWords + part * mostIds + p)) (λ p q. omega arith) (λ p q. omega arith)
+      ∙ opened-peers (c * peerWords + part * mostIds + p) (omega arith)
+      ∙ told-at c p part h b l)
+
+  peer-words : (x : Peer) (mark handle minor : ℕ) → mark ≡ peerWordTold x 0 → handle ≡ peerWordTold x 1 → minor ≡ peerWordTold x 2 → SaysPeer mark handle minor x
+  unfolding SaysPeer peerWordTold
+  peer-words noPeer mark handle minor p q r = p
+  peer-words (peer h m) mark handle minor p q r = (p, q, r)
+
   words-removal : t .outstanding ≡ true → wordsTold t ≡ withRemoval (lowTold t) (removalTold (t .removal))
   unfolding wordsTold
   words-removal o = pick-true _ _ _ o
@@ -415,11 +522,11 @@ module _ (t : Told) (f : SoundTold t) where
       })
 
   last-said : lastOf (lowTold t) ≡ t .last
-  unfolding lowTold served opened ordered flags
+  unfolding lowTold served opened ordered permitted flags
   last-said = last-counts served (t .last) (t .held) served-length
 
   held-said : heldOf (lowTold t) ≡ t .held
-  unfolding lowTold served opened ordered flags
+  unfolding lowTold served opened ordered permitted flags
   held-said = held-counts served (t .last) (t .held) served-length
 
   told-flag : wordOf (removalTold (t .removal) .cancelled) ≡ wordOf (t .removal .cancelled)
@@ -445,6 +552,9 @@ module _ (t : Told) (f : SoundTold t) where
     shutdowns = words-orders 0 (omega arith) ∙ unfold ordersTold in refl;
     panics = words-orders 1 (omega arith) ∙ unfold ordersTold in refl;
     order = order-said (t .orders .order) _ _ (words-orders 2 (omega arith) ∙ unfold ordersTold in refl) (words-orders 3 (omega arith) ∙ unfold ordersTold in refl);
+    ids = words-ids idCountWord (omega arith) (omega arith) ∙ setup-ids (t .lists) whole;
+    id = words-id;
+    peer = λ c p h b. peer-words (t .peers c p) _ _ _ (words-peer c p 0 _ h b (omega arith) (omega arith)) (words-peer c p 1 _ h b (omega arith) (omega arith)) (words-peer c p 2 _ h b (omega arith) (omega arith));
   }
 
 pub encoding : EncodingHolds

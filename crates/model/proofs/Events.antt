@@ -7,8 +7,8 @@ use mathlib.Core.Bool.{true}
 use Rattle.entry.specs.Word.{InRange}
 use Rattle.model.specs.Choice.{_and_, _or_}
 use Rattle.model.specs.declared.Event.{Event}
-use Rattle.model.specs.Layout.{channelCount, serviceCount, mostDevices, mostRecords, highestNumber, highestMinor, mostBudget}
-use Rattle.model.specs.Journal.{kinds, unnamedZero, keepsTable, fieldsOf, readyEvent, closedEvent, versionRefusedEvent, offeredEvent, registeredEvent, offerRefusedEvent, serviceEndedEvent, deliveredEvent, dataRefusedEvent, answeredEvent, configuredEvent, begunEvent, cancelledEvent, collectedEvent, settledEvent, removalEndEvent, notedEvent, deviceEvent, permittedEvent, takenEvent, orderedEvent}
+use Rattle.model.specs.Layout.{channelCount, serviceCount, mostDevices, mostRecords, mostIds, highestNumber, highestMinor, mostBudget}
+use Rattle.model.specs.Journal.{kinds, unnamedZero, keepsTable, fieldsOf, readyEvent, closedEvent, versionRefusedEvent, offeredEvent, registeredEvent, offerRefusedEvent, serviceEndedEvent, deliveredEvent, dataRefusedEvent, answeredEvent, configuredEvent, begunEvent, cancelledEvent, collectedEvent, settledEvent, removalEndEvent, notedEvent, deviceEvent, permittedEvent, takenEvent, orderedEvent, peerRegisteredEvent, peerEndedEvent, peerDataEvent}
 
 pub record Fits (number : ℕ) (e : Event) : Type 0 where
   pub range : InRange (fieldsOf number e)
@@ -94,6 +94,18 @@ module _ (number c : ℕ) (n : number ≤ highestNumber) (h : c < channelCount) 
   pub ordered-fits : (v result delay : ℕ) → v < serviceCount → result < codeEnd → Fits number (orderedEvent c v result delay)
   unfolding fieldsOf kinds unnamedZero _and_ _or_
   ordered-fits v result delay l k = record { range = omega arith; table = refl }
+
+  pub peer-registered-fits : (place minor handle : ℕ) → place < mostIds → minor ≤ highestMinor → Fits number (peerRegisteredEvent c place minor handle)
+  unfolding fieldsOf kinds unnamedZero _and_ _or_
+  peer-registered-fits place minor handle l m = record { range = omega arith; table = refl }
+
+  pub peer-ended-fits : (handle : ℕ) → Fits number (peerEndedEvent c handle)
+  unfolding fieldsOf kinds unnamedZero _and_ _or_
+  peer-ended-fits handle = record { range = omega arith; table = refl }
+
+  pub peer-data-fits : Fits number (peerDataEvent c)
+  unfolding fieldsOf kinds unnamedZero _and_ _or_
+  peer-data-fits = record { range = omega arith; table = refl }
 
 -- the host's own, which have no channel
 pub permitted-fits : (number v permitted : ℕ) → number ≤ highestNumber → v < serviceCount → permitted ≤ 1 → Fits number (permittedEvent v permitted)

@@ -23,6 +23,7 @@ use Rattle.model.proofs.Ring.{event-back, fields-back, stored-same, sto
 use Rattle.model.proofs.Effects.{shape}
 use Rattle.model.proofs.Calls.{Taken, taken, on-act, on-drain}
 use Rattle.model.proofs.Above.{turn-keeps, turn-orders}
+use Rattle.model.proofs.Peers.{ids-same}
 use Rattle.model.proofs.Setup.{starts, empty-accepted}
 use Rattle.model.specs.Journal.{entriesAt, entryOf, fieldsOf, wordsOf}
 use Rattle.model.specs.Blocks.{Lists, noLists}
@@ -40,6 +41,7 @@ module _ (s j out : List ℕ) (pages : ℕ) (e : Effect) (t : Taken s j out e) w
         sound-counted (e .state) (lastOf s + 1) (heldOf s + 1) new-size (g .base) (g .removal)
             (turn-keeps s (t .given .size) (t .given .facts .devices) e (g .above))
             (turn-orders s (t .given .size) (t .given .facts .devices) e (t .given .facts .orders) (g .above))
+            (ids-same s (e .state) (g .peers .ids) (t .given .facts .ids)) (g .peers .sounds)
             (omega (arith, t .given .number)) (omega (arith, t .room)) (omega (arith, t .given .facts .counts .numbered)),
         counts-length (e .state) _ _ ∙ new-size,
       )
@@ -83,7 +85,7 @@ module _ (s j run : List ℕ) (size : length s ≡ stateWords) (good : sound s �
   drained-sound =
       let f = sound-facts s good in
       let c = f .counts in (
-        sound-counted s (lastOf s) (heldOf s - n) size (f .base) (f .removal) (f .devices) (f .orders) (c .lasts) (omega (arith, c .helds)) (omega (arith, c .numbered)),
+        sound-counted s (lastOf s) (heldOf s - n) size (f .base) (f .removal) (f .devices) (f .orders) (f .ids) (f .peers) (c .lasts) (omega (arith, c .helds)) (omega (arith, c .numbered)),
         counts-length s _ _ ∙ size,
       )
 

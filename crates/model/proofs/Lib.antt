@@ -3,6 +3,8 @@ pub mod Loops
 pub mod Words
 pub mod Devices
 pub mod Above
+pub mod Peers
+pub mod PeerTurns
 pub mod View
 pub mod Rules
 pub mod Sounds
@@ -20,6 +22,7 @@ pub mod WorkEffects
 pub mod Steps
 pub mod DeviceEffects
 pub mod OrderEffects
+pub mod PeerEffects
 pub mod ReceiveEffects
 pub mod Calls
 pub mod Lists

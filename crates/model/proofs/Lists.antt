@@ -23,6 +23,7 @@ use Rattle.model.proofs.Words.{counts-length, last-counts, held-counts}
 use Rattle.model.proofs.View.{shape-moves, counts-view}
 use Rattle.model.proofs.Rules.{sound-facts}
 use Rattle.model.proofs.Sounds.{sound-counted}
+use Rattle.model.proofs.Peers.{PeerTurn, ids-same}
 use Rattle.model.proofs.Above.{turn-keeps, turn-orders}
 use Rattle.model.proofs.Ring.{fields-back, stored-same, stored-run, entries-snoc, entries-split, length-entries, entries-in, reading-append}
 use Rattle.model.proofs.Effects.{shape}
@@ -118,6 +119,8 @@ kept-grown b u e out k t =
           sound-counted (e .state) (lastOf (u .state) + 1) (heldOf (u .state) + 1) (w .size) (g .base) (g .removal)
           (turn-keeps (u .state) (t .given .size) (t .given .facts .devices) e (g .above))
           (turn-orders (u .state) (t .given .size) (t .given .facts .devices) e (t .given .facts .orders) (g .above))
+          (ids-same (u .state) (e .state) (g .peers .ids) (t .given .facts .ids))
+          (g .peers .sounds)
           (omega (arith, t .given .number)) (omega (arith, t .room)) (omega (arith, c .numbered));
       last = l ∙ ap (λ (n : ℕ). n + 1) (k .last);
       held = rw h (omega (arith, k .held));
@@ -155,7 +158,7 @@ kept-shifted b u n h k =
     record {
       size = counts-length (u .state) _ _ ∙ k .size;
       sounds =
-          sound-counted (u .state) (lastOf (u .state)) (heldOf (u .state) - n) (k .size) (f .base) (f .removal) (f .devices) (f .orders)
+          sound-counted (u .state) (lastOf (u .state)) (heldOf (u .state) - n) (k .size) (f .base) (f .removal) (f .devices) (f .orders) (f .ids) (f .peers)
           (c .lasts) (omega (arith, c .helds)) (omega (arith, c .numbered));
       last = last-counts (u .state) _ _ (k .size) ∙ k .last;
       held = rw m (simp (length-append, length-entries) (omega (arith, k .held)));

@@ -15,15 +15,16 @@ use Rattle.model.specs.declared.Found.the-variants.{At, Nowhere}
 use Rattle.model.specs.declared.Removal.{Removal}
 use Rattle.model.specs.declared.Request.{Request}
 use Rattle.model.specs.declared.Request.the-variants.{Configure, Unconfigure, Query, Status, Cancel, Malformed}
-use Rattle.model.specs.Layout.{memoryService, deviceCountWord, stateWords, blocksOf, blockAt, lastOf, outstandingOf, isSet, removalOf, withConfigured, withRemoval, withNumber, lastWord, mostBlocks, mostRecords, outputBytes, outstandingWord, noBlock}
+use Rattle.model.specs.Layout.{memoryService, deviceCountWord, stateWords, blocksOf, blockAt, lastOf, outstandingOf, isSet, removalOf, withConfigured, withRemoval, withNumber, lastWord, mostBlocks, mostRecords, outputBytes, outstandingWord, noBlock, channelCount}
 use Rattle.model.specs.State.{removalRoom, collectedSound, resultsSound}
 use Rattle.model.specs.Journal.{fieldsOf, answeredEvent, configuredEvent, cancelledEvent, begunEvent, codeBlocked, codeError, codeNone, kindNoted}
 use Rattle.model.specs.Messages.{Effect, effect}
 use Rattle.model.specs.Memory.{argumentOf, addrIn, sizeIn, hasRecords, requestOf, requestNumber, memoryReply, answering, answeringError, blocked, Progress, oneFailed, oneConfigured, oneUnchanged, configureOne, configuredBy, configureReply, answeringConfigure, beginning, querying, reporting, marked, cancelling, requested, answeredMemory, DR-MEM-OK, configureAt, newRemoval}
 use Rattle.model.specs.Reading.{View, removing, read, seeBlocks, configuredIn, markedRemoval, blocksShown, removalShown, viewOf, seeRemoval}
 use Rattle.model.proofs.Choice.{on-pick, both, tabulate-at, tabulate-length}
-use Rattle.model.proofs.Words.{Agree, Arrays, loaded-arrays, configured-frame, removal-above}
+use Rattle.model.proofs.Words.{Agree, Arrays, loaded-arrays, configured-frame, removal-above, removal-frame}
 use Rattle.model.proofs.Above.{leavesAbove}
+use Rattle.model.proofs.Peers.{leavesChannels, up-to-noted, leavesAsRead}
 use Rattle.model.proofs.View.{Moves, shape-moves, stays, then, turns, configured-moves, removal-moves}
 use Rattle.model.proofs.Rules.{Base, Ours, RemovalFacts}
 use Rattle.model.proofs.Events.{Fits, codeEnd, answered-fits, configured-fits, begun-fits, cancelled-fits}
@@ -82,6 +83,7 @@ pub record Configures (s : List ℕ) (p : Progress) : Type 0 where
   pub sizes : SameSizes s (p .state)
   pub within : p .mask < 2 ^ blocksOf s
   pub above : Agree s (p .state) deviceCountWord stateWords
+  pub channels : Agree s (p .state) 0 channelCount
 
 module _ (s : List ℕ) (g : Given s) where
   configured-first : Configures s (record { state = s; mask = 0; failed = false; results = [] })
@@ -93,6 +95,7 @@ module _ (s : List ℕ) (g : Given s) where
     sizes = same-sizes s;
     within = none-within (blocksOf s);
     above = λ j lo hi. refl;
+    channels = λ j lo hi. refl;
   }
 
   configured-another : (p : Progress) (k : ℕ) → Configures s p → k < blocksOf (p .state) → blockAt (p .state) k .configured ≡ 0 → Configures s (oneConfigured p k)
@@ -116,6 +119,7 @@ module _ (s : List ℕ) (g : Given s) where
         sizes = sizes-then s (p .state) (withConfigured (p .state) k 1) (r .sizes) (flag-sizes (p .state) k 1 (w .size) (w .few) h);
         within = bit-within (p .mask) k (blocksOf s) bit (omega (arith, r .moves .blocks)) (r .within);
         above = λ j lo hi. configured-frame (p .state) k 1 j (λ a b. omega arith) ∙ r .above j lo hi;
+        channels = λ j lo hi. configured-frame (p .state) k 1 j (λ a b. omega arith) ∙ r .channels j lo hi;
       }
 
   configured-one : (p : Progress) (addr size : ℕ) → Configures s p → Configures s (configureOne p addr size)
@@ -124,10 +128,10 @@ module _ (s : List ℕ) (g : Given s) where
       on-pick (Configures s) _ _ _ (λ e. failed) (λ e. go (namedBlock (p .state) addr size) refl)
     where
       failed : Configures s (oneFailed p)
-      failed = unfold oneFailed in record { moves = r .moves; base = r .base; removal = r .removal; sizes = r .sizes; within = r .within; above = r .above }
+      failed = unfold oneFailed in record { moves = r .moves; base = r .base; removal = r .removal; sizes = r .sizes; within = r .within; above = r .above; channels = r .channels }
 
       unchanged-one : Configures s (oneUnchanged p)
-      unchanged-one = unfold oneUnchanged in record { moves = r .moves; base = r .base; removal = r .removal; sizes = r .sizes; within = r .within; above = r .above }
+      unchanged-one = unfold oneUnchanged in record { moves = r .moves; base = r .base; removal = r .removal; sizes = r .sizes; within = r .within; above = r .above; channels = r .channels }
 
       go : (x : Found) → namedBlock (p .state) addr size ≡ x → Configures s (configureAt p x)
       go (At i) e =
@@ -143,7 +147,7 @@ module _ (s : List ℕ) (g : Given s) where
   configured-all b (suc n) = configured-one (configuredBy s b n) (addrIn b n) (sizeIn b n) (configured-all b n)
 
   -- Blocks configured while none is outstanding.
-  blocks-changed : (e : Event) (reply : List ℕ) (p : Progress) → Fits (lastOf s + 1) e → readBy s e (viewOf s) ≡ seeBlocks (configuredIn (p .mask) (viewOf s .blocks)) (viewOf s) → length reply ≤ outputBytes → outstandingOf s ≡ 0 → Configures s p → aside (e .kind) ≡ true → leb (e .kind) kindNoted ≡ true → neededBy s e → Good s (effect e (p .state) reply)
+  blocks-changed : (e : Event) (reply : List ℕ) (p : Progress) → Fits (lastOf s + 1) e → readBy s e (viewOf s) ≡ seeBlocks (configuredIn (p .mask) (viewOf s .blocks)) (viewOf s) → length reply ≤ outputBytes → outstandingOf s ≡ 0 → Configures s p → aside (e .kind) ≡ true → leavesChannels (e .kind) ≡ true → neededBy s e → Good s (effect e (p .state) reply)
   blocks-changed e reply p f q short o r a d n = record {
     entry = f;
     moves = turns (readBy s e) (r .moves) (sym q);
@@ -152,7 +156,8 @@ module _ (s : List ℕ) (g : Given s) where
     removal = removes-none (p .state) (lastOf s + 1) (r .removal ∙ o);
     turn = configures (r .sizes) o (r .removal ∙ o) a;
     need = n;
-    above = leavesAbove (r .above) d;
+    above = leavesAbove (λ j lo hi. r .above j lo (omega arith)) (up-to-noted (e .kind) d);
+    peers = leavesAsRead s (effect e (p .state) reply) (g .facts .peers) (r .channels) (λ j lo hi. r .above j (omega arith) hi) d;
   }
 
   -- 10 and 11, of a CONFIGURE
@@ -172,7 +177,7 @@ module _ (s : List ℕ) (g : Given s) where
       short = unfold configureReply in results-short handle _ request n few _ (λ i. result-length (p .state) (addrIn b i) (sizeIn b i) _)
 
   -- The removal changed, and nothing else.
-  pub removal-changed : (e : Event) (reply : List ℕ) (m : Removal) → Arrays m → Fits (lastOf s + 1) e → readBy s e (viewOf s) ≡ seeRemoval (removing (m .cancelled) (m .position) (m .collected)) (viewOf s) → length reply ≤ outputBytes → RemovalFacts s (lastOf s + 1) m → (SameBlocks s (withRemoval s m) → NewRemoval (withRemoval s m) m → Turn s (effect e (withRemoval s m) reply)) → leb (e .kind) kindNoted ≡ true → neededBy s e → Good s (effect e (withRemoval s m) reply)
+  pub removal-changed : (e : Event) (reply : List ℕ) (m : Removal) → Arrays m → Fits (lastOf s + 1) e → readBy s e (viewOf s) ≡ seeRemoval (removing (m .cancelled) (m .position) (m .collected)) (viewOf s) → length reply ≤ outputBytes → RemovalFacts s (lastOf s + 1) m → (SameBlocks s (withRemoval s m) → NewRemoval (withRemoval s m) m → Turn s (effect e (withRemoval s m) reply)) → leavesChannels (e .kind) ≡ true → neededBy s e → Good s (effect e (withRemoval s m) reply)
   removal-changed e reply m a f q short facts turn d n = record {
     entry = f;
     moves = turns (readBy s e) (removal-moves s (shape s g) m a) (sym q);
@@ -181,7 +186,8 @@ module _ (s : List ℕ) (g : Given s) where
     removal = removes-made s (lastOf s + 1) m (g .size) (g .facts .base .few) a facts;
     turn = turn (removal-blocks s m (g .facts .base .few)) (new-removal s m (g .size) a);
     need = n;
-    above = leavesAbove (λ j lo hi. removal-above s m (g .size) a j (omega arith)) d;
+    above = leavesAbove (λ j lo hi. removal-above s m (g .size) a j (omega arith)) (up-to-noted (e .kind) d);
+    peers = leavesAsRead s (effect e (withRemoval s m) reply) (g .facts .peers) (λ j lo hi. removal-frame s m j (omega arith)) (λ j lo hi. removal-above s m (g .size) a j (omega arith)) d;
   }
 
   -- 12

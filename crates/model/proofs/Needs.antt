@@ -7,7 +7,7 @@ use lib.ListN.{length}
 use borrow.Author.Tests.{lt-ltb}
 use Rattle.model.specs.Choice.{pick, _and_, _or_}
 use Rattle.model.specs.Layout.{memoryService}
-use Rattle.model.specs.Journal.{fieldsOf, readyEvent, closedEvent, versionRefusedEvent, offeredEvent, registeredEvent, offerRefusedEvent, serviceEndedEvent, deliveredEvent, dataRefusedEvent, answeredEvent, configuredEvent, begunEvent, cancelledEvent, collectedEvent, settledEvent, removalEndEvent, notedEvent, deviceEvent, permittedEvent, takenEvent, orderedEvent}
+use Rattle.model.specs.Journal.{fieldsOf, readyEvent, closedEvent, versionRefusedEvent, offeredEvent, registeredEvent, offerRefusedEvent, serviceEndedEvent, deliveredEvent, dataRefusedEvent, answeredEvent, configuredEvent, begunEvent, cancelledEvent, collectedEvent, settledEvent, removalEndEvent, notedEvent, deviceEvent, permittedEvent, takenEvent, orderedEvent, peerRegisteredEvent, peerEndedEvent, peerDataEvent}
 use Rattle.model.specs.Reading.{View}
 use Rattle.model.specs.Demand3.{showsRegistered}
 use Rattle.model.specs.Replay.{showsReady, showsStage, isIdle, isOfferedAs, isOffered, isLive, isRegistered, isRemoving, channelNeed, serviceNeed, handleNeed, removalNeed, settles, blockNeed, needed}
@@ -97,3 +97,15 @@ module _ (number : ℕ) (x : View) (c : ℕ) where
   pub taken-needs : needed (fieldsOf number takenEvent) 0 x ≡ true
   unfolding fieldsOf needed channelNeed serviceNeed handleNeed removalNeed blockNeed pick _and_ _or_
   taken-needs = refl
+
+  pub peer-registered-needs : (place minor handle : ℕ) → needed (fieldsOf number (peerRegisteredEvent c place minor handle)) handle x ≡ true
+  unfolding fieldsOf needed channelNeed serviceNeed handleNeed removalNeed blockNeed pick _and_ _or_
+  peer-registered-needs place minor handle = refl
+
+  pub peer-ended-needs : (handle : ℕ) → needed (fieldsOf number (peerEndedEvent c handle)) handle x ≡ true
+  unfolding fieldsOf needed channelNeed serviceNeed handleNeed removalNeed blockNeed pick _and_ _or_
+  peer-ended-needs handle = refl
+
+  pub peer-data-needs : needed (fieldsOf number (peerDataEvent c)) 0 x ≡ true
+  unfolding fieldsOf needed channelNeed serviceNeed handleNeed removalNeed blockNeed pick _and_ _or_
+  peer-data-needs = refl

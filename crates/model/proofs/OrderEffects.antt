@@ -11,15 +11,16 @@ use borrow.Author.Tests.{le-leb, eqb-true, eqb-false}
 use Rattle.wire.proofs.Laws.{number-bound}
 use Rattle.model.specs.Choice.{pick, _and_, _or_}
 use Rattle.model.specs.declared.Event.{Event}
-use Rattle.model.specs.Layout.{channelCount, serviceCount, shutdownService, panicService, firstPermissionWord, orderWord, delayWord, stateWords, orderNone, orderShutdown, orderPanic, highestDelay, wordOf, isSet, permissionAt, orderOf, delayOf, withPermission, withOrder, lastOf, blockCountWord, lastWord, heldWord, outputBytes}
+use Rattle.model.specs.Layout.{channelCount, serviceCount, shutdownService, panicService, firstPermissionWord, orderWord, delayWord, stateWords, orderNone, orderShutdown, orderPanic, highestDelay, wordOf, isSet, permissionAt, orderOf, delayOf, withPermission, withOrder, lastOf, blockCountWord, lastWord, heldWord, outputBytes, idCountWord}
 use Rattle.model.specs.State.{ordersSound}
 use Rattle.model.specs.Orders.{DOMAIN-SHUTDOWN-SUCCESS, orderNumber, delayIn, notOrdered, ordering, orderingFor, answeredOrder, permitting, taking}
-use Rattle.model.specs.Journal.{orderedEvent, permittedEvent, takenEvent, kindDevice, fieldsOf}
+use Rattle.model.specs.Journal.{orderedEvent, permittedEvent, takenEvent, kindDevice, fieldsOf, kindPeerRegistered}
 use Rattle.model.specs.Messages.{effect}
 use Rattle.model.specs.Reading.{View, read, viewOf, Order, shutdown, panic, orderShown, ordersShown, readOrders, seePermission, seeOrder}
 use Rattle.model.proofs.Choice.{on-pick, both, join, or-true}
 use Rattle.model.proofs.Words.{Agree, permission-frame, permission-length, permission-word, order-frame, order-length, order-word, delay-word}
 use Rattle.model.proofs.View.{counted-view}
+use Rattle.model.proofs.Peers.{leavesPeers}
 use Rattle.model.proofs.Above.{setsOrders}
 use Rattle.model.proofs.Rules.{Given}
 use Rattle.model.proofs.Sounds.{base-same, removes-same}
@@ -122,8 +123,8 @@ module _ (s : List ℕ) (size : length s ≡ stateWords) where
 
 -- Permissions and the order changed, and nothing else.
 module _ (s : List ℕ) (g : Given s) where
-  orders-changed : (e : Event) (t reply : List ℕ) → length t ≡ length s → Agree s t 0 firstPermissionWord → Fits (lastOf s + 1) e → ((v : View) → readBy s e v ≡ v) → length reply ≤ outputBytes → aside (e .kind) ≡ true → kindDevice < e .kind → neededBy s e → ordersSound t ≡ true → ((number : ℕ) → ordersShown t ≡ readOrders (fieldsOf number e) (e .word) (ordersShown s)) → Good s (effect e t reply)
-  orders-changed e t reply size w f r short a above n o shown = record {
+  orders-changed : (e : Event) (t reply : List ℕ) → length t ≡ length s → Agree s t 0 firstPermissionWord → Agree s t idCountWord stateWords → Fits (lastOf s + 1) e → ((v : View) → readBy s e v ≡ v) → length reply ≤ outputBytes → aside (e .kind) ≡ true → kindDevice < e .kind → e .kind < kindPeerRegistered → neededBy s e → ordersSound t ≡ true → ((number : ℕ) → ordersShown t ≡ readOrders (fieldsOf number e) (e .word) (ordersShown s)) → Good s (effect e t reply)
+  orders-changed e t reply size w x f r short a above under n o shown = record {
     entry = f;
     moves = record {
       size = size;
@@ -144,14 +145,15 @@ module _ (s : List ℕ) (g : Given s) where
         a;
     need = n;
     above = setsOrders (λ j lo hi. w j (omega arith) hi) o above shown;
+    peers = leavesPeers s (effect e t reply) (g .facts .peers) (λ j lo hi. w j lo (omega arith)) x (omega arith) under;
   }
 
   -- 21, and no order left
   not-ordered-good : (c handle v request result : ℕ) (reason : List ℕ) → c < channelCount → v < serviceCount → result < codeEnd → eqb result 0 ≡ false → length reason ≤ 8 → Good s (notOrdered s c handle v request result reason)
   unfolding notOrdered fieldsOf read pick aside _or_
   not-ordered-good c handle v request result reason h l k bad short =
-      orders-changed (orderedEvent c v result 0) s _ refl (λ j lo hi. refl) (ordered-fits _ c (next-number s g) h v result 0 l k) (λ x. refl)
-      (order-short handle request result reason short) refl (omega arith) (ordered-needs _ _ c v result 0) (g .facts .orders)
+      orders-changed (orderedEvent c v result 0) s _ refl (λ j lo hi. refl) (λ j lo hi. refl) (ordered-fits _ c (next-number s g) h v result 0 l k) (λ x. refl)
+      (order-short handle request result reason short) refl (omega arith) (omega arith) (ordered-needs _ _ c v result 0) (g .facts .orders)
       (λ number. unfold readOrders _and_ in rw bad)
 
   -- 21, and an order left
@@ -160,8 +162,9 @@ module _ (s : List ℕ) (g : Given s) where
   ordering-good c handle v request order delay h l p q shown =
       orders-changed (orderedEvent c v DOMAIN-SHUTDOWN-SUCCESS delay) (withOrder s order delay) _ (order-length s order delay)
       (λ j lo hi. order-frame s order delay j (λ a b. omega arith))
+      (λ j lo hi. order-frame s order delay j (λ a b. omega arith))
       (ordered-fits _ c (next-number s g) h v DOMAIN-SHUTDOWN-SUCCESS delay l (omega arith)) (λ x. unfold pick in refl)
-      (order-short handle request DOMAIN-SHUTDOWN-SUCCESS [] (omega arith)) refl (omega arith) (ordered-needs _ _ c v DOMAIN-SHUTDOWN-SUCCESS delay)
+      (order-short handle request DOMAIN-SHUTDOWN-SUCCESS [] (omega arith)) refl (omega arith) (omega arith) (ordered-needs _ _ c v DOMAIN-SHUTDOWN-SUCCESS delay)
       (ordered-sound s (g .size) order delay p q (g .facts .orders))
       (λ number. order-shown s (g .size) order delay ∙ ap (λ (x : Order). seeOrder x (ordersShown s)) shown ∙ unfold readOrders pick _and_ in refl)
 
@@ -186,8 +189,9 @@ module _ (s : List ℕ) (g : Given s) where
   permitting-good v permitted p l =
       orders-changed (permittedEvent v (wordOf permitted)) (withPermission s v (wordOf permitted)) [] (permission-length s v (wordOf permitted))
       (λ j lo hi. permission-frame s v (wordOf permitted) j (λ q. omega arith))
+      (λ j lo hi. permission-frame s v (wordOf permitted) j (λ q. omega arith))
       (permitted-fits _ v (wordOf permitted) (next-number s g) l (small permitted)) (λ x. unfold pick in refl)
-      short-empty refl (omega arith) (permitted-needs _ _ 0 v (wordOf permitted))
+      short-empty refl (omega arith) (omega arith) (permitted-needs _ _ 0 v (wordOf permitted))
       (permitted-sound s (g .size) v (wordOf permitted) p l (small permitted) (g .facts .orders))
       (λ number. permission-shown s (g .size) v permitted p l ∙ unfold readOrders pick in refl)
     where
@@ -199,7 +203,7 @@ module _ (s : List ℕ) (g : Given s) where
   pub taking-good : Good s (taking s)
   unfolding taking fieldsOf read pick aside _or_
   taking-good =
-      orders-changed takenEvent (withOrder s orderNone 0) [] (order-length s orderNone 0) (λ j lo hi. order-frame s orderNone 0 j (λ a b. omega arith))
-      (taken-fits _ (next-number s g)) (λ x. refl) short-empty refl (omega arith) (taken-needs _ _ 0)
+      orders-changed takenEvent (withOrder s orderNone 0) [] (order-length s orderNone 0) (λ j lo hi. order-frame s orderNone 0 j (λ a b. omega arith)) (λ j lo hi. order-frame s orderNone 0 j (λ a b. omega arith))
+      (taken-fits _ (next-number s g)) (λ x. refl) short-empty refl (omega arith) (omega arith) (taken-needs _ _ 0)
       (ordered-sound s (g .size) orderNone 0 (omega arith) (omega arith) (g .facts .orders))
       (λ number. order-shown s (g .size) orderNone 0 ∙ unfold readOrders orderShown pick in refl)

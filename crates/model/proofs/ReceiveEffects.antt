@@ -10,23 +10,25 @@ use borrow.Author.Tests.{eqb-true}
 use Rattle.wire.proofs.Laws.{number-bound}
 use Rattle.model.specs.declared.Message.{Message}
 use Rattle.model.specs.declared.Message.the-variants.{InitReq, RegReq, RegAck, RegNack, Unreg, UnregAck, UnregNack, Data, Nack, Bad}
-use Rattle.model.specs.Layout.{memoryService, deviceService, placeOf, readyAt, channelCount, highestMinor, lastOf, placeCount, serviceCount, stageRegistered, stageAt}
+use Rattle.model.specs.Layout.{memoryService, deviceService, placeOf, readyAt, channelCount, highestMinor, lastOf, placeCount, mostIds, serviceCount, stageRegistered, stageAt}
 use Rattle.model.specs.Messages.{decoded, decodedByType, registeredAs, registeredFor, route, DS-INV-HDL, effect, nack}
-use Rattle.model.specs.Calls.{dataFor, heard, hears, receiving, routed}
+use Rattle.model.specs.Calls.{dataFor, peerData, heard, hears, receiving, routed}
 use Rattle.model.specs.Choice.{pick, _or_}
+use Rattle.model.specs.Peers.{peeredAs, peerFor}
 use Rattle.model.specs.declared.Found.the-variants.{Nowhere}
 use Rattle.model.specs.declared.Route.{Route}
 use Rattle.model.specs.declared.Route.the-variants.{Memory, Devices, Orders, Host}
 use Rattle.model.proofs.Choice.{on-pick, on-first, first-nowhere, both}
 use Rattle.model.proofs.Rules.{Ours, live-rules}
 use Rattle.model.proofs.Events.{delivered-fits, data-refused-fits}
-use Rattle.model.proofs.Replies.{short-empty, regNack-short, nack-short}
+use Rattle.model.proofs.Replies.{short-empty, nack-short}
 use Rattle.model.proofs.Rules.{Given}
-use Rattle.model.proofs.Effects.{Good, next-number, base-now, unchanged, closing-good, initiated-good, noting-good, acknowledged-good, not-acknowledged-good, unregistered-good}
+use Rattle.model.proofs.Effects.{Good, next-number, base-now, unchanged, closing-good, initiated-good, noting-good, acknowledged-good, not-acknowledged-good}
 use Rattle.model.proofs.Turns.{aside}
 use Rattle.model.proofs.MemoryEffects.{memory-good}
 use Rattle.model.proofs.DeviceEffects.{devices-good}
 use Rattle.model.proofs.OrderEffects.{answered-order-good}
+use Rattle.model.proofs.PeerEffects.{peer-data-good, registering-good, unregistered-good}
 use Rattle.model.specs.Journal.{deliveredEvent, fieldsOf, dataRefusedEvent}
 use Rattle.model.specs.Reading.{read, viewOf}
 use Rattle.model.specs.Replay.{showsReady, showsStage, isRegistered}
@@ -87,6 +89,14 @@ module _ (s : List ℕ) (g : Given s) where
       unchanged s g (dataRefusedEvent c handle) _ (data-refused-fits _ c (next-number s g) h handle) (λ v. refl) (nack-short handle _) refl refl
       (data-refused-needs _ _ c handle (shows-open s c h ready) (shows-none s (g .facts .base) c handle h e))
 
+  -- no service of ours is registered under the handle
+  peer-or-refused : (c handle : ℕ) → c < channelCount → readyAt s c ≡ 1 → registeredFor s c handle ≡ Nowhere → Good s (peerData s c handle (peerFor s c handle))
+  unfolding peerData
+  peer-or-refused c handle h ready e =
+      on-first (λ x. Good s (peerData s c handle x)) mostIds (peeredAs s c handle)
+      (λ p r. peer-data-good s g c h)
+      (λ _. data-refused-good c handle h ready e)
+
   routed-good : (c handle : ℕ) (payload : List ℕ) (v : ℕ) (x : Route) → Routed v x → c < channelCount → v < serviceCount → showsReady (viewOf s) c ≡ true → isRegistered (showsStage (viewOf s) c v) ≡ true → Ours 0 (lastOf s + 1) handle → Good s (routed s c handle payload v x)
   unfolding routed
   routed-good c handle payload v Memory q h l r n o = memory-good s g c handle payload (record { below = h; ready = r; shown = rw (sym q) n }) o
@@ -106,13 +116,13 @@ module _ (s : List ℕ) (g : Given s) where
       routed-good c handle payload v (route v) (route-of v) h (r .below)
       (shows-open s c h ready)
       (shows-test s c h v (r .below) isRegistered (registered-here s (placeOf c v) two))
-      (record { least = omega arith; most = omega (arith, u .most, eqb-true _ handle (p .1)) }))
-      (λ none. data-refused-good c handle h ready (first-nowhere serviceCount (registeredAs s c handle) none))
+      (record { least = omega (arith, u .least, eqb-true _ handle (p .1)); most = omega (arith, u .most, eqb-true _ handle (p .1)) }))
+      (λ none. peer-or-refused c handle h ready (first-nowhere serviceCount (registeredAs s c handle) none))
 
   heard-good : (c : ℕ) (m : List ℕ) (x : Message) → c < channelCount → hears (eqb (readyAt s c) 1) x ≡ true → Versions x → Good s (heard s c m x)
   unfolding heard hears
   heard-good c m (InitReq major) h y v = initiated-good s g c major h v
-  heard-good c m (RegReq handle) h y v = noting-good s g c _ _ h (eqb-true _ 1 y) (regNack-short handle _ _)
+  heard-good c m (RegReq handle) h y v = registering-good s g c m h (eqb-true _ 1 y)
   heard-good c m (RegAck handle minor) h y v = acknowledged-good s g c handle minor h (eqb-true _ 1 y) v
   heard-good c m (RegNack handle) h y v = not-acknowledged-good s g c handle h (eqb-true _ 1 y)
   heard-good c m (Unreg handle) h y v = unregistered-good s g c handle h (eqb-true _ 1 y)

@@ -12,7 +12,7 @@ use Rattle.wire.specs.BigEndian.{bytesOf, numberAt}
 use Rattle.wire.proofs.Laws.{length-bytes, number-after}
 use Rattle.model.specs.Choice.{joined}
 use Rattle.model.specs.declared.Removal.{Removal}
-use Rattle.model.specs.Messages.{DS-DATA, services, serviceOf, dsMessage, initAck, initNack, regReq, regNack, unreg, unregAck, unregNack, dsData, nack}
+use Rattle.model.specs.Messages.{DS-DATA, services, serviceOf, dsMessage, initAck, initNack, regReq, regAck, regNack, unreg, unregAck, unregNack, dsData, nack}
 use Rattle.model.specs.Memory.{memoryReply, resultRecord, queryRecord, permanentRange, statusRecord}
 use Rattle.model.specs.DeviceRequests.{deviceReply}
 use Rattle.model.specs.Orders.{orderReply}
@@ -47,6 +47,10 @@ regReq-short handle v = simp (message-length, length-append, length-bytes) (omeg
 pub regNack-short : (handle result major : ℕ) → length (regNack handle result major) ≤ outputBytes
 unfolding regNack
 regNack-short handle result major = simp (message-length, length-append, length-bytes) (omega arith)
+
+pub regAck-short : (handle minor : ℕ) → length (regAck handle minor) ≤ outputBytes
+unfolding regAck
+regAck-short handle minor = simp (message-length, length-append, length-bytes) (omega arith)
 
 pub unreg-short : (handle : ℕ) → length (unreg handle) ≤ outputBytes
 unfolding unreg

@@ -10,7 +10,8 @@ use lib.Dec.{leb, eqb}
 use borrow.Author.Tests.{not-true, leb-true, ltb-true, eqb-true, eqb-false, le-leb, lt-ltb, eq-eqb, ne-eqb}
 use Rattle.model.specs.Choice.{pick, _and_, _or_, every}
 use Rattle.model.specs.declared.Removal.{Removal}
-use Rattle.model.specs.Layout.{readyAt, stageAt, handleAt, minorAt, blocksOf, Block, blockAt, lastOf, heldOf, outstandingOf, cancelledOf, isSet, removalOf, channelCount, firstBlockWord, highestMinor, highestNumber, mostBlocks, mostHeld, mostRecords, placeCount, serviceCount, stageIdle, stageOffered, stageRegistered, stateWords, firstDeviceWord, devicesOf}
+use Rattle.model.specs.Layout.{readyAt, stageAt, handleAt, minorAt, blocksOf, Block, blockAt, lastOf, heldOf, outstandingOf, cancelledOf, isSet, removalOf, channelCount, firstBlockWord, highestMinor, highestNumber, mostBlocks, mostHeld, mostRecords, placeCount, serviceCount, stageIdle, stageOffered, stageRegistered, stateWords, firstDeviceWord, devicesOf, firstIdWord, idsOf}
+use Rattle.model.specs.Peers.{idsKeep, peersSound}
 use Rattle.model.specs.Devices.{devicesKeep}
 use Rattle.model.specs.Blocks.{endOf, blockKeeps, endBefore, blocksKeep, highestEnd, mostPages, pageSize}
 use Rattle.model.specs.State.{serviceSound, serviceSoundAt, handleApart, removalRoom, collectedSound, resultsSound, removalSound, outstandingSound, ordersSound, sound, isOurs, ourHandle}
@@ -177,6 +178,8 @@ pub record Sound (s : List ℕ) : Type 0 where
   pub counts : Counts s
   pub devices : devicesKeep s firstDeviceWord (devicesOf s) ≡ true
   pub orders : ordersSound s ≡ true
+  pub ids : idsKeep s firstIdWord (idsOf s) ≡ true
+  pub peers : (c : ℕ) → c < channelCount → peersSound s (readyAt s c) c ≡ true
 
 -- what is known of the state that an accepted call is given
 pub record Given (s : List ℕ) : Type 0 where
@@ -287,6 +290,8 @@ module _ (s : List ℕ) where
       let t7 = both _ _ (t6 .1) in
       let t8 = both _ _ (t7 .1) in
       let t9 = both _ _ (t8 .1) in
+      let t10 = both _ _ (t9 .1) in
+      let t11 = both _ _ (t10 .1) in
       record {
         base = record {
           few = leb-true _ mostBlocks (b1 .0);
@@ -302,7 +307,9 @@ module _ (s : List ℕ) where
           numbered = leb-true _ _ (t7 .0);
         };
         devices = t9 .0;
-        orders = t9 .1;
+        orders = t10 .0;
+        ids = t11 .0;
+        peers = λ c h. every-at (λ c. peersSound s (readyAt s c) c) channelCount c (t11 .1) h;
       }
 
   pub sound-test : Sound s → sound s ≡ true
@@ -316,7 +323,7 @@ module _ (s : List ℕ) where
       (join _ _ (apart-test (b .apart))
       (join _ _ (le-leb _ _ (f .counts .lasts))
       (join _ _ (le-leb _ _ (f .counts .helds))
-      (join _ _ (le-leb _ _ (f .counts .numbered)) (join _ _ (removes-test (f .removal)) (join _ _ (f .devices) (f .orders)))))))))
+      (join _ _ (le-leb _ _ (f .counts .numbered)) (join _ _ (removes-test (f .removal)) (join _ _ (f .devices) (join _ _ (f .orders) (join _ _ (f .ids) (every-make (λ c. peersSound s (readyAt s c) c) channelCount (f .peers))))))))))))
 
 -- a later last number
 pub base-later : {s : List ℕ} {last : ℕ} (last′ : ℕ) → last ≤ last′ → Base s last → Base s last′

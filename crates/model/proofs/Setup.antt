@@ -9,16 +9,18 @@ use lib.ListN.{length, getD, set, replicate, length-set, getD-replicate}
 use lib.Seq.{getD-set-same, getD-set-other, length-sets}
 use borrow.Author.Tests.{leb-true, eqb-true}
 use Rattle.model.specs.Choice.{pick, every, tabulate, _and_, _or_}
-use Rattle.model.specs.Layout.{outstandingOf, blocksOf, blockIn, blockAt, lastOf, heldOf, blockCountWord, blockWords, configuredPlace, firstBlockWord, firstPlace, firstStageWord, heldWord, lastWord, mostBlocks, outstandingWord, pagesPlace, permanentPlace, serviceWords, stateWords, noBlock, deviceWords, mostDevices, deviceConfiguredPlace, deviceCountWord, firstDeviceWord, firstPermissionWord, noDevice, deviceIn, deviceAt, devicesOf}
+use Rattle.model.specs.Layout.{outstandingOf, blocksOf, blockIn, blockAt, lastOf, heldOf, blockCountWord, blockWords, configuredPlace, firstBlockWord, firstPlace, firstStageWord, heldWord, lastWord, mostBlocks, outstandingWord, pagesPlace, permanentPlace, serviceWords, stateWords, noBlock, deviceWords, mostDevices, deviceConfiguredPlace, deviceCountWord, firstDeviceWord, firstPermissionWord, noDevice, deviceIn, deviceAt, devicesOf, channelCount, readyAt, idWords, mostIds, idCountWord, firstIdWord, firstPeerWord, peerWords, idsOf, peeredAt}
+use Rattle.model.specs.Peers.{acceptedIds, idsKeep}
 use Rattle.model.specs.Devices.{acceptedDevices, devicesKeep}
 use Rattle.model.specs.Blocks.{blockKeeps, endBefore, blocksKeep, withList, setupState, Lists, acceptedBlocks, acceptedLists, noLists, names, namedIn, namedBlock}
 use Rattle.model.specs.State.{ordersSound, sound}
-use Rattle.model.specs.Reading.{stageOf, channelsOf, servicesOf, blocksShown, removalShown, viewOf, setupView, devicesShown, setupDevices, orderShown, ordersShown, setupOrders}
+use Rattle.model.specs.Reading.{stageOf, channelsOf, servicesOf, blocksShown, removalShown, viewOf, setupView, devicesShown, setupDevices, orderShown, ordersShown, setupOrders, noPeer, peersShown, setupPeers}
 use Rattle.model.proofs.Choice.{both, every-at, tabulate-same, first-same}
 use Rattle.model.proofs.Words.{sets-below, sets-above, sets-at, removal-same}
 use Rattle.model.proofs.View.{channels-same, services-same}
 use Rattle.model.proofs.Above.{orders-kept, orders-shown-same}
 use Rattle.model.proofs.Devices.{SameWords, device-facts, name-few, flag-few, devices-keep, device-same}
+use Rattle.model.proofs.Peers.{SameIdWords, id-facts, id-few, ids-keep, unmarked-sound}
 use Rattle.model.proofs.Rules.{sound-test, service-idle}
 use Rattle.model.proofs.Sounds.{removes-none}
 use Rattle.model.specs.Messages.{services}
@@ -56,6 +58,22 @@ whole-devices l e =
       keeps = p .1;
     }
 
+-- an accepted id list as facts
+pub record WholeIds (l : List ℕ) (n : ℕ) : Type 0 where
+  pub whole : length l ≡ n * idWords
+  pub few : n ≤ mostIds
+  pub keeps : idsKeep l 0 n ≡ true
+
+pub whole-ids : (l : List ℕ) → acceptedIds l ≡ true → WholeIds l (length l / idWords)
+unfolding acceptedIds
+whole-ids l e =
+    let p = both _ _ e in
+    record {
+      whole = omega (arith, eqb-true (length l % idWords) 0 (p .0));
+      few = id-facts l 0 (length l / idWords) (p .1) .few;
+      keeps = p .1;
+    }
+
 -- a list in the state, with its count before it
 module _ (s : List ℕ) (at words : ℕ) (l : List ℕ) where
   counted : List ℕ
@@ -81,14 +99,18 @@ module _ (s : List ℕ) (at words : ℕ) (l : List ℕ) where
   unfolding withList counted
   list-word i h n = sets-at counted l (at + 1) i h (omega (arith, length-set s at (length l / words)))
 
--- both lists as facts
+-- the lists as facts
 pub record WholeLists (l : Lists) : Type 0 where
   pub blocks : Whole (l .blocks) (length (l .blocks) / blockWords)
   pub devices : WholeDevices (l .devices) (length (l .devices) / deviceWords)
+  pub ids : WholeIds (l .ids) (length (l .ids) / idWords)
 
 pub whole-lists : (l : Lists) → acceptedLists l ≡ true → WholeLists l
 unfolding acceptedLists
-whole-lists l e = let p = both _ _ e in record { blocks = whole-list (l .blocks) (p .0); devices = whole-devices (l .devices) (p .1) }
+whole-lists l e =
+    let p = both _ _ e in
+    let q = both _ _ (p .1) in
+    record { blocks = whole-list (l .blocks) (p .0); devices = whole-devices (l .devices) (q .0); ids = whole-ids (l .ids) (q .1) }
 
 module _ (l : Lists) (w : WholeLists l) where
   f : Whole (l .blocks) (length (l .blocks) / blockWords)
@@ -105,14 +127,25 @@ module _ (l : Lists) (w : WholeLists l) where
   unfolding listed zeros
   listed-length = list-length zeros blockCountWord blockWords (l .blocks)
 
-  pub setup-length : length (setupState l) ≡ stateWords
-  unfolding setupState listed zeros
-  setup-length = list-length listed deviceCountWord deviceWords (l .devices) ∙ listed-length
+  -- and those with the devices
+  equipped : List ℕ
+  equipped = withList listed deviceCountWord deviceWords (l .devices)
 
-  -- below the devices
+  equipped-length : length equipped ≡ stateWords
+  unfolding equipped
+  equipped-length = list-length listed deviceCountWord deviceWords (l .devices) ∙ listed-length
+
+  pub setup-length : length (setupState l) ≡ stateWords
+  unfolding setupState equipped listed zeros
+  setup-length = list-length equipped idCountWord idWords (l .ids) ∙ equipped-length
+
+  -- below the ids, and below the devices
+  below-ids : (j : ℕ) → j < idCountWord → getD (setupState l) j 0 ≡ getD equipped j 0
+  unfolding setupState equipped listed zeros
+  below-ids j h = list-below equipped idCountWord idWords (l .ids) j h
+
   under : (j : ℕ) → j < deviceCountWord → getD (setupState l) j 0 ≡ getD listed j 0
-  unfolding setupState listed zeros
-  under j h = list-below listed deviceCountWord deviceWords (l .devices) j h
+  under j h = below-ids j (omega arith) ∙ unfold equipped in (list-below listed deviceCountWord deviceWords (l .devices) j h)
 
   -- all but the lists' words is 0
   low : (j : ℕ) → j < blockCountWord → getD (setupState l) j 0 ≡ getD (replicate stateWords 0) j 0
@@ -132,13 +165,14 @@ module _ (l : Lists) (w : WholeLists l) where
 
   -- the devices
   pub device-count : devicesOf (setupState l) ≡ length (l .devices) / deviceWords
-  unfolding setupState listed zeros
-  device-count = list-count listed deviceCountWord deviceWords (l .devices) (omega (arith, listed-length))
+  unfolding equipped
+  device-count = below-ids deviceCountWord (omega arith) ∙ list-count listed deviceCountWord deviceWords (l .devices) (omega (arith, listed-length))
 
   device-word : (i : ℕ) → i < length (l .devices) → getD (setupState l) (firstDeviceWord + i) 0 ≡ getD (l .devices) i 0
-  unfolding setupState listed zeros
+  unfolding equipped
   device-word i h =
-      list-word listed deviceCountWord deviceWords (l .devices) i h (omega (arith, listed-length, w .devices .whole, w .devices .few))
+      below-ids (firstDeviceWord + i) (omega (arith, w .devices .whole, w .devices .few))
+      ∙ list-word listed deviceCountWord deviceWords (l .devices) i h (omega (arith, listed-length, w .devices .whole, w .devices .few))
 
   -- word j of device i
   pub device-given : (i : ℕ) → i < length (l .devices) / deviceWords → (j : ℕ) → j < deviceWords → getD (setupState l) (firstDeviceWord + i * deviceWords + j) 0 ≡ getD (l .devices) (0 + i * deviceWords + j) 0
@@ -162,11 +196,12 @@ module _ (l : Lists) (w : WholeLists l) where
       (λ i h. rw (device-flag i h) (flag-few (l .devices) 0 i (device-facts (l .devices) 0 (length (l .devices) / deviceWords) (w .devices .keeps) .keeps i h)))
       (w .devices .keeps))
 
-  -- and after them all is 0
-  end : (j : ℕ) → firstPermissionWord ≤ j → j < stateWords → getD (setupState l) j 0 ≡ getD (replicate stateWords 0) j 0
-  unfolding setupState listed zeros
+  -- after them all is 0 up to the ids
+  end : (j : ℕ) → firstPermissionWord ≤ j → j < idCountWord → getD (setupState l) j 0 ≡ getD (replicate stateWords 0) j 0
+  unfolding equipped listed zeros
   end j h g =
-      list-above listed deviceCountWord deviceWords (l .devices) j (omega (arith, w .devices .whole, w .devices .few))
+      below-ids j g
+      ∙ list-above listed deviceCountWord deviceWords (l .devices) j (omega (arith, w .devices .whole, w .devices .few))
       ∙ list-above zeros blockCountWord blockWords (l .blocks) j (omega (arith, f .whole, f .few))
 
   setup-orders : ordersSound (setupState l) ≡ true
@@ -174,6 +209,42 @@ module _ (l : Lists) (w : WholeLists l) where
 
   setup-ordered : ordersShown (setupState l) ≡ setupOrders
   setup-ordered = orders-shown-same (replicate stateWords 0) (setupState l) end ∙ unfold ordersShown orderShown pick in refl
+
+  -- the ids
+  pub id-count : idsOf (setupState l) ≡ length (l .ids) / idWords
+  unfolding setupState equipped listed zeros
+  id-count = list-count equipped idCountWord idWords (l .ids) (omega (arith, equipped-length))
+
+  id-word : (i : ℕ) → i < length (l .ids) → getD (setupState l) (firstIdWord + i) 0 ≡ getD (l .ids) i 0
+  unfolding setupState equipped listed zeros
+  id-word i h = list-word equipped idCountWord idWords (l .ids) i h (omega (arith, equipped-length, w .ids .whole, w .ids .few))
+
+  pub id-words : (p : ℕ) → p < length (l .ids) / idWords → SameIdWords (l .ids) (setupState l) 0 firstIdWord p
+  id-words p h j g =
+      let short = id-few (l .ids) 0 p (id-facts (l .ids) 0 (length (l .ids) / idWords) (w .ids .keeps) .keeps p h) in
+      ap (λ (x : ℕ). getD (setupState l) x 0) (omega arith)
+      ∙ id-word (0 + p * idWords + j) (omega (arith, w .ids .whole))
+
+  setup-ids : idsKeep (setupState l) firstIdWord (idsOf (setupState l)) ≡ true
+  setup-ids = rw id-count (ids-keep (l .ids) (setupState l) 0 firstIdWord (length (l .ids) / idWords) id-words (w .ids .keeps))
+
+  -- no peer registration
+  top : (j : ℕ) → firstPeerWord ≤ j → j < stateWords → getD (setupState l) j 0 ≡ 0
+  unfolding setupState equipped listed zeros
+  top j h g =
+      list-above equipped idCountWord idWords (l .ids) j (omega (arith, w .ids .whole, w .ids .few))
+      ∙ list-above listed deviceCountWord deviceWords (l .devices) j (omega (arith, w .devices .whole, w .devices .few))
+      ∙ list-above zeros blockCountWord blockWords (l .blocks) j (omega (arith, f .whole, f .few))
+      ∙ getD-replicate {A = ℕ} stateWords j 0 0 g
+
+  setup-unpeered : (c : ℕ) → c < channelCount → (p : ℕ) → p < mostIds → peeredAt (setupState l) c p ≡ 0
+  setup-unpeered c h p b = top (firstPeerWord + c * peerWords + p) (omega arith) (omega arith)
+
+  setup-peers : peersShown (setupState l) ≡ setupPeers
+  unfolding peersShown pick
+  setup-peers =
+      tabulate-same (λ _. noPeer) _ (channelCount * mostIds) noPeer (λ k h. rw (setup-unpeered (k / mostIds) (omega arith) (k % mostIds) (omega arith)))
+      ∙ unfold tabulate in refl
 
   setup-shown : devicesShown (setupState l) ≡ setupDevices l
   unfolding devicesShown setupDevices
@@ -245,6 +316,8 @@ module _ (l : Lists) (w : WholeLists l) where
         };
         devices = setup-devices;
         orders = setup-orders;
+        ids = setup-ids;
+        peers = λ c h. unmarked-sound (setupState l) (readyAt (setupState l) c) c (setup-unpeered c h);
       })
 
 -- what holds of an accepted list's state
@@ -256,6 +329,7 @@ pub record Starts (l : Lists) : Type 0 where
   pub view : viewOf (setupState l) ≡ setupView l
   pub devices : devicesShown (setupState l) ≡ setupDevices l
   pub orders : ordersShown (setupState l) ≡ setupOrders
+  pub peers : peersShown (setupState l) ≡ setupPeers
   pub outstanding : outstandingOf (setupState l) ≡ 0
   pub counted : blocksOf (setupState l) ≡ length (l .blocks) / blockWords
   pub given : (i : ℕ) → i < length (l .blocks) / blockWords → blockAt (setupState l) i ≡ blockIn (l .blocks) 0 i
@@ -272,6 +346,7 @@ starts l e =
       view = setup-view l f;
       devices = setup-shown l f;
       orders = setup-ordered l f;
+      peers = setup-peers l f;
       outstanding = high l f outstandingWord (omega arith) (omega arith);
       counted = count l f;
       given = block l f;
@@ -279,5 +354,5 @@ starts l e =
     }
 
 pub empty-accepted : acceptedLists noLists ≡ true
-unfolding acceptedLists acceptedBlocks blocksKeep acceptedDevices devicesKeep every _and_
+unfolding acceptedLists acceptedBlocks blocksKeep acceptedDevices devicesKeep acceptedIds idsKeep every _and_
 empty-accepted = refl

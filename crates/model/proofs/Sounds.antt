@@ -10,10 +10,12 @@ use lib.Dec.{eqb}
 use borrow.Author.Tests.{eqb-true, eqb-false, eq-eqb, not-true}
 use Rattle.model.specs.Choice.{pick, _and_}
 use Rattle.model.specs.declared.Removal.{Removal}
-use Rattle.model.specs.Layout.{readyAt, stageAt, handleAt, minorAt, blocksOf, Block, blockAt, outstandingOf, wordOf, removalOf, withChannel, withService, withConfigured, withCounts, withRemoval, withoutRemoval, blockCountWord, cancelledWord, channelCount, channelWords, firstBlockWord, firstHandleWord, firstMinorWord, firstStageWord, highestNumber, lastWord, mostBlocks, mostHeld, outstandingWord, placeCount, serviceCount, serviceWords, stateWords, stageIdle, firstNumberedWord, lastOf, heldOf, heldWord, withNumber, deviceCountWord, devicesOf, firstDeviceWord}
+use Rattle.model.specs.Layout.{readyAt, stageAt, handleAt, minorAt, blocksOf, Block, blockAt, outstandingOf, wordOf, removalOf, withChannel, withService, withConfigured, withCounts, withRemoval, withoutRemoval, blockCountWord, cancelledWord, channelCount, channelWords, firstBlockWord, firstHandleWord, firstMinorWord, firstStageWord, highestNumber, lastWord, mostBlocks, mostHeld, outstandingWord, placeCount, serviceCount, serviceWords, stateWords, stageIdle, firstNumberedWord, lastOf, heldOf, heldWord, withNumber, deviceCountWord, devicesOf, firstDeviceWord, firstIdWord, idsOf}
 use Rattle.model.specs.Devices.{devicesKeep}
 use Rattle.model.proofs.Devices.{devices-same}
+use Rattle.model.specs.Peers.{idsKeep, peersSound}
 use Rattle.model.proofs.Above.{orders-kept}
+use Rattle.model.proofs.Peers.{ids-same, peers-same}
 use Rattle.model.specs.Blocks.{endOf, blockKeeps, endBefore, names, namedBlock}
 use Rattle.model.specs.State.{serviceSound, roomOf, removalRoom, ordersSound, sound, roomAt}
 use Rattle.model.specs.Reading.{flagged}
@@ -197,16 +199,16 @@ module _ (s : List ℕ) (last c on : ℕ) (size : length s ≡ stateWords) (b : 
 
   kept : (k i : ℕ) → i < serviceWords → k < placeCount → (k / serviceCount ≡ c → ⊥) → getD switched (firstStageWord + i + k * serviceWords) 0 ≡ getD s (firstStageWord + i + k * serviceWords) 0
   unfolding switched
-  kept k i h g n = channel-frame s c on (firstStageWord + i + k * serviceWords) (λ q. omega arith) (λ p q. n (omega arith))
+  kept k i h g n = channel-frame s c on (firstStageWord + i + k * serviceWords) (λ q. omega arith) (λ p q. n (omega arith)) (omega arith)
 
   ready-other : (x : ℕ) → x < channelCount → (x ≡ c → ⊥) → readyAt switched x ≡ readyAt s x
   unfolding switched
-  ready-other x h n = channel-frame s c on x n (λ p q. omega arith)
+  ready-other x h n = channel-frame s c on x n (λ p q. omega arith) (omega arith)
 
   pub base-channel : Base (withChannel s c on) last
   unfolding switched
   base-channel =
-      base-make s switched last b (λ j lo hi. channel-frame s c on j (λ q. omega arith) (λ p q. omega arith)) ready services apart
+      base-make s switched last b (λ j lo hi. channel-frame s c on j (λ q. omega arith) (λ p q. omega arith) (omega arith)) ready services apart
     where
       ready : (x : ℕ) → x < channelCount → readyAt switched x ≤ 1
       ready x h = go (eqb x c) refl
@@ -337,8 +339,8 @@ pub removes-none : (s : List ℕ) (last : ℕ) → outstandingOf s ≡ 0 → Rem
 removes-none s last e o = absurd (clash _ (not-true _ o) (eq-eqb _ 0 e))
 
 -- An entry counted.
-pub sound-counted : (s : List ℕ) (last held : ℕ) → length s ≡ stateWords → Base s last → Removes s last → devicesKeep s firstDeviceWord (devicesOf s) ≡ true → ordersSound s ≡ true → last ≤ highestNumber → held ≤ mostHeld → held ≤ last → sound (withCounts s last held) ≡ true
-sound-counted s last held n b r d o p q l =
+pub sound-counted : (s : List ℕ) (last held : ℕ) → length s ≡ stateWords → Base s last → Removes s last → devicesKeep s firstDeviceWord (devicesOf s) ≡ true → ordersSound s ≡ true → idsKeep s firstIdWord (idsOf s) ≡ true → ((c : ℕ) → c < channelCount → peersSound s (readyAt s c) c ≡ true) → last ≤ highestNumber → held ≤ mostHeld → held ≤ last → sound (withCounts s last held) ≡ true
+sound-counted s last held n b r d o i v p q l =
     let t : List ℕ = withCounts s last held in
     let e = counts-frame s last held in
     let x = last-counts s last held n in
@@ -350,6 +352,8 @@ sound-counted s last held n b r d o p q l =
       counts = record { lasts = rw x p; helds = rw y q; numbered = rw (x, y) l };
       devices = devices-same s (withCounts s last held) (λ j lo hi. e j (λ p q. omega arith)) d;
       orders = orders-kept s (withCounts s last held) (λ j lo hi. e j (λ p q. omega arith)) o;
+      ids = ids-same s (withCounts s last held) (λ j lo hi. e j (λ p q. omega arith)) i;
+      peers = λ c h. rw (e c (λ p q. omega arith)) (peers-same s (withCounts s last held) (λ j lo hi. e j (λ p q. omega arith)) c h (λ j lo hi. e j (λ p q. omega arith)) (readyAt s c) ∙ v c h);
     })
   where
     base-make′ : ((j : ℕ) → (lastWord ≤ j → j < outstandingWord → ⊥) → getD (withCounts s last held) j 0 ≡ getD s j 0) → Base (withCounts s last held) last
@@ -365,7 +369,9 @@ sound-same s t a b f =
       removal = rw last (removes-same s t (lastOf s) (f .base .few) (λ j lo hi. a j (omega arith) (omega arith)) (λ j lo hi. a j (omega arith) hi) (f .removal));
       counts = record { lasts = rw last (f .counts .lasts); helds = rw held (f .counts .helds); numbered = rw (last, held) (f .counts .numbered) };
       devices = devices-same s t (λ j lo hi. b j lo (omega arith)) (f .devices);
-      orders = orders-kept s t (λ j lo hi. b j (omega arith) hi) (f .orders);
+      orders = orders-kept s t (λ j lo hi. b j (omega arith) (omega arith)) (f .orders);
+      ids = ids-same s t (λ j lo hi. b j (omega arith) (omega arith)) (f .ids);
+      peers = λ c h. rw (a c (omega arith) (omega arith)) (peers-same s t (λ j lo hi. b j (omega arith) (omega arith)) c h (λ j lo hi. b j (omega arith) (omega arith)) (readyAt s c) ∙ f .peers c h);
     }
 
 pub sound-numbers : (s : List ℕ) (c numbered highest : ℕ) → c < channelCount → sound s ≡ true → sound (withNumber s c numbered highest) ≡ true

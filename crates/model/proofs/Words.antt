@@ -11,7 +11,7 @@ use lib.Dec.{ltb}
 use borrow.Author.Tests.{ltb-true, ltb-false}
 use Rattle.model.specs.Choice.{tabulate}
 use Rattle.model.specs.declared.Removal.{Removal}
-use Rattle.model.specs.Layout.{isSet, wordOf, removalOf, removalHead, withChannel, withService, withConfigured, withCounts, withRemoval, withoutRemoval, outstandingOf, cancelledOf, blockWords, cancelledWord, channelCount, channelWords, collectedWord, configuredPlace, countWord, firstAddressWord, firstBlockWord, firstResultWord, firstSizeWord, firstStageWord, heldWord, lastWord, mostRecords, outstandingWord, placeCount, positionWord, removalChannelWord, removalHandleWord, removalWords, requestWord, serviceWords, stateWords, headWords, firstNumberedWord, numberWords, withNumber, mostBlocks, deviceConfiguredPlace, deviceCountWord, deviceWords, firstDeviceWord, mostDevices, withDevice, serviceCount, shutdownService, firstPermissionWord, orderWord, permissionAt, orderOf, delayOf, withPermission, withOrder}
+use Rattle.model.specs.Layout.{isSet, wordOf, removalOf, removalHead, withChannel, withService, withConfigured, withCounts, withRemoval, withoutRemoval, outstandingOf, cancelledOf, blockWords, cancelledWord, channelCount, channelWords, collectedWord, configuredPlace, countWord, firstAddressWord, firstBlockWord, firstResultWord, firstSizeWord, firstStageWord, heldWord, lastWord, mostRecords, outstandingWord, placeCount, positionWord, removalChannelWord, removalHandleWord, removalWords, requestWord, serviceWords, stateWords, headWords, firstNumberedWord, numberWords, withNumber, mostBlocks, deviceConfiguredPlace, deviceCountWord, deviceWords, firstDeviceWord, mostDevices, withDevice, serviceCount, shutdownService, firstPermissionWord, orderWord, permissionAt, orderOf, delayOf, withPermission, withOrder, mostIds, peerWords, firstPeerWord, peeredAt, peerHandleAt, peerMinorAt, withPeer, withoutPeer}
 use Rattle.model.proofs.Choice.{tabulate-at, tabulate-length, tabulate-same}
 
 -- A run of stores: before it, after it, outside it, inside it.
@@ -74,16 +74,35 @@ pub counts-length : (s : List ℕ) (last held : ℕ) → length (withCounts s la
 unfolding withCounts
 counts-length s last held = length-sets s lastWord (last ∷ held ∷ [])
 
--- a channel's own word, and its services' twelve
-pub channel-frame : (s : List ℕ) (c ready j : ℕ) → (j ≡ c → ⊥) → (firstStageWord + c * channelWords ≤ j → j < firstStageWord + channelWords + c * channelWords → ⊥) → getD (withChannel s c ready) j 0 ≡ getD s j 0
-unfolding withChannel
-channel-frame s c ready j n m =
-    sets-else (set s c ready) (replicate channelWords 0) (firstStageWord + c * channelWords) j (λ a b. m a (omega arith))
-    ∙ getD-set-other s c j ready 0 n
+-- a channel's own word, its services' twelve, and the marks of its peer registrations
+idled : List ℕ → ℕ → ℕ → List ℕ
+idled s c ready = sets (set s c ready) (firstStageWord + c * channelWords) (replicate channelWords 0)
+
+module _ (s : List ℕ) (c ready j : ℕ) where
+  idled-else : (j ≡ c → ⊥) → (firstStageWord + c * channelWords ≤ j → j < firstStageWord + channelWords + c * channelWords → ⊥) → getD (idled s c ready) j 0 ≡ getD s j 0
+  unfolding idled
+  idled-else n m =
+      sets-else (set s c ready) (replicate channelWords 0) (firstStageWord + c * channelWords) j (λ a b. m a (omega arith))
+      ∙ getD-set-other s c j ready 0 n
+
+  -- below the peers' words, and among them
+  pub channel-frame : (j ≡ c → ⊥) → (firstStageWord + c * channelWords ≤ j → j < firstStageWord + channelWords + c * channelWords → ⊥) → j < firstPeerWord → getD (withChannel s c ready) j 0 ≡ getD s j 0
+  unfolding withChannel idled
+  channel-frame n m b = sets-below (idled s c ready) (replicate mostIds 0) (firstPeerWord + c * peerWords) j (omega arith) ∙ idled-else n m
+
+  pub channel-peers : c < channelCount → firstPeerWord ≤ j → (firstPeerWord + c * peerWords ≤ j → j < firstPeerWord + c * peerWords + mostIds → ⊥) → getD (withChannel s c ready) j 0 ≡ getD s j 0
+  unfolding withChannel idled
+  channel-peers h b n =
+      sets-else (idled s c ready) (replicate mostIds 0) (firstPeerWord + c * peerWords) j (λ p q. n p (omega arith))
+      ∙ idled-else (λ q. omega arith) (λ p q. omega arith)
+
+idled-length : (s : List ℕ) (c ready : ℕ) → length (idled s c ready) ≡ length s
+unfolding idled
+idled-length s c ready = length-sets (set s c ready) (firstStageWord + c * channelWords) (replicate channelWords 0) ∙ length-set s c ready
 
 pub channel-length : (s : List ℕ) (c ready : ℕ) → length (withChannel s c ready) ≡ length s
-unfolding withChannel
-channel-length s c ready = length-sets (set s c ready) (firstStageWord + c * channelWords) (replicate channelWords 0) ∙ length-set s c ready
+unfolding withChannel idled
+channel-length s c ready = length-sets (idled s c ready) (firstPeerWord + c * peerWords) (replicate mostIds 0) ∙ idled-length s c ready
 
 -- an outstanding removal's words
 module _ (s : List ℕ) (m : Removal) where
@@ -310,15 +329,24 @@ module _ (s : List ℕ) (last held : ℕ) (n : length s ≡ stateWords) where
 -- a channel's words as they then are
 module _ (s : List ℕ) (c ready : ℕ) (n : length s ≡ stateWords) (b : c < channelCount) where
   pub channel-ready : getD (withChannel s c ready) c 0 ≡ ready
-  unfolding withChannel
+  unfolding withChannel idled
   channel-ready =
-      sets-below (set s c ready) (replicate channelWords 0) (firstStageWord + c * channelWords) c (omega arith) ∙ getD-set-same s c ready 0 (omega arith)
+      sets-below (idled s c ready) (replicate mostIds 0) (firstPeerWord + c * peerWords) c (omega arith)
+      ∙ sets-below (set s c ready) (replicate channelWords 0) (firstStageWord + c * channelWords) c (omega arith) ∙ getD-set-same s c ready 0 (omega arith)
 
   pub channel-zero : (i : ℕ) → i < channelWords → getD (withChannel s c ready) (firstStageWord + c * channelWords + i) 0 ≡ 0
-  unfolding withChannel
+  unfolding withChannel idled
   channel-zero i h =
-      sets-at (set s c ready) (replicate channelWords 0) (firstStageWord + c * channelWords) i (omega arith) (omega (arith, length-set s c ready))
+      sets-below (idled s c ready) (replicate mostIds 0) (firstPeerWord + c * peerWords) (firstStageWord + c * channelWords + i) (omega arith)
+      ∙ sets-at (set s c ready) (replicate channelWords 0) (firstStageWord + c * channelWords) i (omega arith) (omega (arith, length-set s c ready))
       ∙ getD-replicate channelWords i 0 0 h
+
+-- the marks of its peers
+pub channel-unpeered : (s : List ℕ) (c ready : ℕ) → length s ≡ stateWords → c < channelCount → (p : ℕ) → p < mostIds → peeredAt (withChannel s c ready) c p ≡ 0
+unfolding withChannel idled
+channel-unpeered s c ready n b p h =
+    sets-at (idled s c ready) (replicate mostIds 0) (firstPeerWord + c * peerWords) p (omega arith) (omega (arith, idled-length s c ready))
+    ∙ getD-replicate mostIds p 0 0 h
 
 pub configured-word : (s : List ℕ) (i flag : ℕ) → length s ≡ stateWords → i < mostBlocks → getD (withConfigured s i flag) (firstBlockWord + i * blockWords + configuredPlace) 0 ≡ flag
 unfolding withConfigured
@@ -383,3 +411,57 @@ module _ (s : List ℕ) (order delay : ℕ) (n : length s ≡ stateWords) where
   pub delay-word : delayOf (withOrder s order delay) ≡ delay
   unfolding withOrder
   delay-word = sets-at s (order ∷ delay ∷ []) orderWord 1 (omega arith) (omega arith)
+
+-- a peer registration made, and ended
+module _ (s : List ℕ) (c p handle minor : ℕ) where
+  pub peer-frame : (j : ℕ) → (j ≡ firstPeerWord + c * peerWords + p → ⊥) → (j ≡ firstPeerWord + c * peerWords + mostIds + p → ⊥) → (j ≡ firstPeerWord + c * peerWords + mostIds + mostIds + p → ⊥) → getD (withPeer s c p handle minor) j 0 ≡ getD s j 0
+  unfolding withPeer
+  peer-frame j n m o =
+      getD-set-other (set (set s (firstPeerWord + c * peerWords + p) 1) (firstPeerWord + c * peerWords + mostIds + p) handle) (firstPeerWord + c * peerWords + mostIds + mostIds + p) j minor 0 o
+      ∙ getD-set-other (set s (firstPeerWord + c * peerWords + p) 1) (firstPeerWord + c * peerWords + mostIds + p) j handle 0 m
+      ∙ getD-set-other s (firstPeerWord + c * peerWords + p) j 1 0 n
+
+  pub peer-length : length (withPeer s c p handle minor) ≡ length s
+  unfolding withPeer
+  peer-length =
+      length-set (set (set s (firstPeerWord + c * peerWords + p) 1) (firstPeerWord + c * peerWords + mostIds + p) handle) (firstPeerWord + c * peerWords + mostIds + mostIds + p) minor
+      ∙ length-set (set s (firstPeerWord + c * peerWords + p) 1) (firstPeerWord + c * peerWords + mostIds + p) handle
+      ∙ length-set s (firstPeerWord + c * peerWords + p) 1
+
+pub unpeer-frame : (s : List ℕ) (c p j : ℕ) → (j ≡ firstPeerWord + c * peerWords + p → ⊥) → getD (withoutPeer s c p) j 0 ≡ getD s j 0
+unfolding withoutPeer
+unpeer-frame s c p j n = getD-set-other s (firstPeerWord + c * peerWords + p) j 0 0 n
+
+pub unpeer-length : (s : List ℕ) (c p : ℕ) → length (withoutPeer s c p) ≡ length s
+unfolding withoutPeer
+unpeer-length s c p = length-set s (firstPeerWord + c * peerWords + p) 0
+
+module _ (s : List ℕ) (c p handle minor : ℕ) (n : length s ≡ stateWords) (h : c < channelCount) (l : p < mostIds) where
+  marked : List ℕ
+  marked = set s (firstPeerWord + c * peerWords + p) 1
+
+  handled : List ℕ
+  handled = set marked (firstPeerWord + c * peerWords + mostIds + p) handle
+
+  pub peer-mark : peeredAt (withPeer s c p handle minor) c p ≡ 1
+  unfolding withPeer marked handled
+  peer-mark =
+      getD-set-other handled (firstPeerWord + c * peerWords + mostIds + mostIds + p) (firstPeerWord + c * peerWords + p) minor 0 (λ q. omega arith)
+      ∙ getD-set-other marked (firstPeerWord + c * peerWords + mostIds + p) (firstPeerWord + c * peerWords + p) handle 0 (λ q. omega arith)
+      ∙ getD-set-same s (firstPeerWord + c * peerWords + p) 1 0 (omega arith)
+
+  pub peer-handle : peerHandleAt (withPeer s c p handle minor) c p ≡ handle
+  unfolding withPeer marked handled
+  peer-handle =
+      getD-set-other handled (firstPeerWord + c * peerWords + mostIds + mostIds + p) (firstPeerWord + c * peerWords + mostIds + p) minor 0 (λ q. omega arith)
+      ∙ getD-set-same marked (firstPeerWord + c * peerWords + mostIds + p) handle 0 (omega (arith, length-set s (firstPeerWord + c * peerWords + p) 1))
+
+  pub peer-minor : peerMinorAt (withPeer s c p handle minor) c p ≡ minor
+  unfolding withPeer marked handled
+  peer-minor =
+      getD-set-same handled (firstPeerWord + c * peerWords + mostIds + mostIds + p) minor 0
+      (omega (arith, length-set s (firstPeerWord + c * peerWords + p) 1, length-set marked (firstPeerWord + c * peerWords + mostIds + p) handle))
+
+  pub unpeer-mark : peeredAt (withoutPeer s c p) c p ≡ 0
+  unfolding withoutPeer
+  unpeer-mark = getD-set-same s (firstPeerWord + c * peerWords + p) 0 0 (omega arith)

@@ -20,8 +20,9 @@ use Rattle.model.specs.Messages.{Effect, effect}
 use Rattle.model.specs.Work.{addrNow, sizeNow, blockNow, endCode, lateReply, ending, settled, collecting, pagesMoved, collects, worksOn, stepOf, working, WorkStep, failingCode, moving, worksAt}
 use Rattle.model.specs.Reading.{read, seeBlocks, seeRemoval, flagged, unconfiguredIn, steppedRemoval, addedPages, blocksShown, viewOf}
 use Rattle.model.proofs.Choice.{on-pick, join, or-false, every-at, every-make}
-use Rattle.model.proofs.Words.{Arrays, loaded-arrays, configured-frame, removal-above, without-above, without-outstanding}
+use Rattle.model.proofs.Words.{Arrays, loaded-arrays, configured-frame, removal-above, without-above, without-outstanding, removal-frame, without-frame}
 use Rattle.model.proofs.Above.{leavesAbove}
+use Rattle.model.proofs.Peers.{leavesAsRead}
 use Rattle.model.proofs.View.{shape-moves, then, turns, configured-moves, removal-moves, without-moves}
 use Rattle.model.proofs.Rules.{RemovalFacts, block-rules}
 use Rattle.model.proofs.Turns.{Turn, steps, same-blocks, same-removal}
@@ -212,6 +213,11 @@ module _ (s : List ℕ) (g : Given s) (o : isSet (outstandingOf s) ≡ true) whe
             leavesAbove
             (λ j lo hi. removal-above (withConfigured s k 0) (settled (removalOf s) DR-MEM-RES-OK) (w′ .size) (settled-arrays DR-MEM-RES-OK) j (omega arith) ∙ configured-frame s k 0 j (λ p q. omega arith))
             refl;
+        peers =
+            leavesAsRead s (effect (settledEvent (removalOf s .channel) (removalOf s .position) DR-MEM-RES-OK n k) (withRemoval (withConfigured s k 0) (settled (removalOf s) DR-MEM-RES-OK)) []) (g .facts .peers)
+            (λ j lo hi. removal-frame (withConfigured s k 0) (settled (removalOf s) DR-MEM-RES-OK) j (omega arith) ∙ configured-frame s k 0 j (λ p q. omega arith))
+            (λ j lo hi. removal-above (withConfigured s k 0) (settled (removalOf s) DR-MEM-RES-OK) (w′ .size) (settled-arrays DR-MEM-RES-OK) j (omega arith) ∙ configured-frame s k 0 j (λ p q. omega arith))
+            refl;
       }
 
   -- 16
@@ -236,6 +242,11 @@ module _ (s : List ℕ) (g : Given s) (o : isSet (outstandingOf s) ≡ true) whe
     turn = turn;
     need = end-needs _ _ _ _ replied _ (removing-shown s g o);
     above = leavesAbove (λ j lo hi. without-above s j (omega arith)) refl;
+    peers =
+        leavesAsRead s (effect (removalEndEvent (removalOf s .channel) (endCode s (removalOf s)) replied (removalOf s .request)) (withoutRemoval s) reply) (g .facts .peers)
+        (λ j lo hi. without-frame s j (omega arith))
+        (λ j lo hi. without-above s j (omega arith))
+        refl;
   }
 
   ending-good : Turn s (ending s (removalOf s)) → Good s (ending s (removalOf s))

@@ -8,8 +8,9 @@ use lib.Seq.{sets}
 use lib.Dec.{leb, eqb}
 use Rattle.model.specs.declared.Found.{Found}
 use Rattle.model.specs.Choice.{pick, _and_, every, firstBelow}
-use Rattle.model.specs.Layout.{Block, blockIn, blocksOf, mostBlocks, blockWords, stateWords, blockCountWord, firstBlockWord, deviceWords, deviceCountWord}
+use Rattle.model.specs.Layout.{Block, blockIn, blocksOf, mostBlocks, blockWords, stateWords, blockCountWord, firstBlockWord, deviceWords, deviceCountWord, idWords, idCountWord}
 use Rattle.model.specs.Devices.{acceptedDevices}
+use Rattle.model.specs.Peers.{acceptedIds}
 
 -- "A page is 8,192 bytes."
 abbrev pub pageSize : ℕ
@@ -55,25 +56,27 @@ blocksKeep l at n = leb n mostBlocks and every n (λ i. blockKeeps (blockIn l at
 unfoldable pub acceptedBlocks : List ℕ → Bool
 acceptedBlocks l = eqb (length l % blockWords) 0 and blocksKeep l 0 (length l / blockWords)
 
--- what the host gives at setup: the blocks, and the devices of 02, ticket 1
+-- what the host gives at setup: the blocks, the devices of 02, ticket 1, and the ids of ticket 7
 pub record Lists : Type 0 where
   pub blocks : List ℕ
   pub devices : List ℕ
+  pub ids : List ℕ
 
 abbrev pub noLists : Lists
-noLists = record { blocks = []; devices = [] }
+noLists = record { blocks = []; devices = []; ids = [] }
 
 -- setup accepts the lists (else refusal 7)
 unfoldable pub acceptedLists : Lists → Bool
-acceptedLists l = acceptedBlocks (l .blocks) and acceptedDevices (l .devices)
+acceptedLists l = acceptedBlocks (l .blocks) and acceptedDevices (l .devices) and acceptedIds (l .ids)
 
--- "Setup leaves all channels closed, nothing outstanding, the journal empty"; 02, ticket 6: "denied until set". A list stands in the state with its count before it.
+-- A list stands in the state with its count before it.
 unfoldable pub withList : List ℕ → ℕ → ℕ → List ℕ → List ℕ
 withList s at words l = sets (set s at (length l / words)) (at + 1) l
 
+-- "Setup leaves all channels closed, nothing outstanding, the journal empty"; 02, ticket 6: "denied until set"
 unfoldable pub setupState : Lists → List ℕ
 setupState l =
-    withList (withList (replicate stateWords 0) blockCountWord blockWords (l .blocks)) deviceCountWord deviceWords (l .devices)
+    withList (withList (withList (replicate stateWords 0) blockCountWord blockWords (l .blocks)) deviceCountWord deviceWords (l .devices)) idCountWord idWords (l .ids)
 
 -- "A pair names a block if addr is its base and size is all of it."
 unfoldable pub names : ℕ → ℕ → Block → Bool

@@ -6,7 +6,7 @@ use mathlib.Core.List.{List, [], _++_}
 use lib.ListN.{length, drop}
 use lib.Dec.{leb, ltb, eqb}
 use Rattle.wire.specs.BigEndian.{written}
-use Rattle.model.specs.Choice.{pick, _and_}
+use Rattle.model.specs.Choice.{pick, _and_, _or_, isFound}
 use Rattle.model.specs.declared.Found.{Found}
 use Rattle.model.specs.declared.Found.the-variants.{At, Nowhere}
 use Rattle.model.specs.declared.Message.{Message}
@@ -19,8 +19,9 @@ use Rattle.model.specs.Layout.{channelCount, serviceCount, mostBudget, e
 use Rattle.model.specs.Blocks.{Lists, noLists, acceptedLists, setupState}
 use Rattle.model.specs.State.{sound}
 use Rattle.model.specs.Refusals.{actionRefusal, drainRefusal}
-use Rattle.model.specs.Journal.{deliveredEvent, dataRefusedEvent, entryOf, stored, entriesAt, wordsOf}
-use Rattle.model.specs.Messages.{DS-REG-REQ, DS-UNREG-ACK, DS-UNREG-NACK, DS-NACK, DS-REG-VER-NACK, DS-INV-HDL, Effect, effect, route, decoded, regNack, nack, offeredFor, registeredFor, liveFor, closing, noting, initiated, acknowledged, notAcknowledged, unregistered, offering, withdrawing}
+use Rattle.model.specs.Peers.{peerFor}
+use Rattle.model.specs.Journal.{deliveredEvent, peerDataEvent, dataRefusedEvent, entryOf, stored, entriesAt, wordsOf}
+use Rattle.model.specs.Messages.{DS-UNREG-ACK, DS-UNREG-NACK, DS-NACK, DS-INV-HDL, Effect, effect, route, decoded, registering, nack, offeredFor, registeredFor, liveFor, closing, noting, initiated, acknowledged, notAcknowledged, unregistered, offering, withdrawing}
 use Rattle.model.specs.Memory.{answeredMemory}
 use Rattle.model.specs.Work.{working}
 use Rattle.model.specs.DeviceRequests.{answeredDevice}
@@ -67,21 +68,27 @@ accepted s j out pages e = record {
   buffer = written (e .reply) out;
 }
 
--- "DATA whose handle is registered on this channel reaches that service .. Otherwise the reply is NACK with the handle and result 3."
+-- 02, ticket 7: "data on a live peer handle goes to the host with kind 24". "Otherwise the reply is NACK with the handle and result 3."
+unfoldable pub peerData : List ℕ → ℕ → ℕ → Found → Effect
+peerData s c handle (At p) = effect (peerDataEvent c) s []
+peerData s c handle Nowhere = effect (dataRefusedEvent c handle) s (nack handle DS-INV-HDL)
+
+-- the data for service v, by where it goes
 unfoldable pub routed : List ℕ → ℕ → ℕ → List ℕ → ℕ → Route → Effect
 routed s c handle payload v Memory = answeredMemory s c handle payload
 routed s c handle payload v Devices = answeredDevice s c handle payload
 routed s c handle payload v Orders = answeredOrder s c handle v payload
 routed s c handle payload v Host = effect (deliveredEvent c v) s []
 
+-- "DATA whose handle is registered on this channel reaches that service"
 unfoldable pub dataFor : List ℕ → ℕ → ℕ → List ℕ → Found → Effect
 dataFor s c handle payload (At v) = routed s c handle payload v (route v)
-dataFor s c handle payload Nowhere = effect (dataRefusedEvent c handle) s (nack handle DS-INV-HDL)
+dataFor s c handle payload Nowhere = peerData s c handle (peerFor s c handle)
 
 -- what a message does on a channel that hears it; none hears `Bad`
 unfoldable pub heard : List ℕ → ℕ → List ℕ → Message → Effect
 heard s c m (InitReq major) = initiated s c major
-heard s c m (RegReq handle) = noting s c DS-REG-REQ (regNack handle DS-REG-VER-NACK 0)
+heard s c m (RegReq handle) = registering s c m
 heard s c m (RegAck handle minor) = acknowledged s c handle minor (offeredFor s c handle)
 heard s c m (RegNack handle) = notAcknowledged s c (offeredFor s c handle)
 heard s c m (Unreg handle) = unregistered s c handle (liveFor s c handle)
@@ -182,7 +189,7 @@ outcome s j (drain run) =
     (drained s j run (min (heldOf s) (length run / entryWords)))
     (refused s j run (drainRefusal s (length j)))
 
--- Setup: 7 where "the list is not whole blocks or breaks a rule above", and where the device list is refused (02, ticket 1); refused, it gives the state of empty lists.
+-- Setup: 7 where "the list is not whole blocks or breaks a rule above", and where the device list (02, ticket 1) or the id list (ticket 7) is refused; refused, it gives the state of empty lists.
 unfoldable pub started : Lists → Started
 started l =
     pick (acceptedLists l)
@@ -202,6 +209,10 @@ unfoldable pub goesToHost : Found → Bool
 goesToHost (At v) = isHost (route v)
 goesToHost Nowhere = false
 
+-- 02, ticket 7: "and show gives it from byte 16"
+abbrev pub shownTo : List ℕ → ℕ → ℕ → Bool
+shownTo s c handle = goesToHost (registeredFor s c handle) or isFound (peerFor s c handle)
+
 unfoldable pub toHost : List ℕ → ℕ → Message → Bool
 toHost s c (InitReq major) = false
 toHost s c (RegReq handle) = false
@@ -210,7 +221,7 @@ toHost s c (RegNack handle) = false
 toHost s c (Unreg handle) = false
 toHost s c UnregAck = false
 toHost s c UnregNack = false
-toHost s c (Data handle) = goesToHost (registeredFor s c handle)
+toHost s c (Data handle) = shownTo s c handle
 toHost s c Nack = false
 toHost s c Bad = false
 

@@ -1,8 +1,9 @@
 -- Choices by a test, connectives, and tables of a function's values.
 -- Assumes nothing.
-use Prim.Native.Nat.{ℕ, zero, suc, _/_}
+use Prim.Native.Nat.{ℕ, zero, suc, _+_, _/_}
 use mathlib.Core.Bool.{Bool, true, false}
 use mathlib.Core.List.{List, [], _∷_, _++_}
+use lib.ListN.{set}
 use lib.Dec.{eqb}
 use Rattle.model.specs.declared.Found.{Found}
 use Rattle.model.specs.declared.Found.the-variants.{At, Nowhere}
@@ -50,6 +51,11 @@ isAt k Nowhere = false
 unfoldable pub tabulate : {A : Type 0} → (ℕ → A) → ℕ → List A
 tabulate f zero = []
 tabulate f (suc n) = tabulate f n ++ (f n ∷ [])
+
+-- n values from place k on made d
+unfoldable pub clearedFrom : {A : Type 0} → A → List A → ℕ → ℕ → List A
+clearedFrom d l k zero = l
+clearedFrom d l k (suc n) = set (clearedFrom d l k n) (k + n) d
 
 -- the lists f 0, f 1, and so on, n in all, one after the other
 unfoldable pub joined : (ℕ → List ℕ) → ℕ → List ℕ

@@ -1,10 +1,10 @@
 -- Demand 3: "a single claim about the whole list of calls, not one for each".
--- A message is any list of numbers, each read as a byte; journals, runs and block lists are any lists; channels, services and budgets
+-- A message is any list of numbers, each read as a byte; journals, runs and the lists of setup are any lists; channels, services and budgets
 -- any numbers.
 -- Assumes nothing.
 use Prim.Native.Nat.{ℕ, _+_, _-_, _≤_, _<_}
 use mathlib.Core.Path.{_≡_}
-use mathlib.Core.Bool.{Bool, true, false}
+use mathlib.Core.Bool.{Bool, true, false, not}
 use mathlib.Core.List.{List, [], _∷_, _++_}
 use lib.ListN.{length, getD, take}
 use lib.Dec.{eqb}
@@ -14,12 +14,12 @@ use Rattle.model.specs.Choice.{pick, _and_, firstBelow, isFound, isAt}
 use Rattle.model.specs.declared.Event.{Event}
 use Rattle.model.specs.declared.Found.{Found}
 use Rattle.model.specs.declared.Found.the-variants.{Nowhere}
-use Rattle.model.specs.Layout.{serviceCount, mostHeld, dsHeaderBytes, lastOf, heldOf, placeOf}
+use Rattle.model.specs.Layout.{serviceCount, mostHeld, mostIds, dsHeaderBytes, lastOf, heldOf, placeOf}
 use Rattle.model.specs.Blocks.{Lists}
-use Rattle.model.specs.Journal.{Entry, eventOf, entryAt, entriesAt, entriesIn, servedBy}
+use Rattle.model.specs.Journal.{Entry, eventOf, entryAt, entriesAt, entriesIn, servedBy, kindPeerData}
 use Rattle.model.specs.Messages.{DS-INV-HDL, DS-DATA, mostPayload, typeOf, payloadLength, nack}
 use Rattle.model.specs.Calls.{Call, act, drain, receive, Outcome, outcome, started}
-use Rattle.model.specs.Reading.{View, Stage, idle, offered, registered, viewOf, setupView, reading, devicesShown, setupDevices, readingDevices, ordersShown, setupOrders, readingOrders}
+use Rattle.model.specs.Reading.{View, Stage, idle, offered, registered, viewOf, setupView, reading, devicesShown, setupDevices, readingDevices, ordersShown, setupOrders, readingOrders, Peer, noPeer, hasHandle, peerPlace, peersShown, setupPeers, readingPeers}
 
 -- a call, and what it returned and left
 pub record Done : Type 0 where
@@ -96,7 +96,7 @@ lastEntry r = entryAt (r .journal) (lastOf (r .state))
 unfoldable pub noted : Outcome → Event
 noted r = eventOf (unpacked (lastEntry r .first)) (lastEntry r .second)
 
--- the service that data under a handle has reached, if any: "it has reached it if the reply is not the NACK named next and its entry is of
+-- the one of our four services that data under a handle has reached, if any: "it has reached it if the reply is not the NACK named next and its entry is of
 -- kind 8, or of 10 to 13 for service 0", and by 02's tickets those that `servedBy` names
 unfoldable pub reached : ℕ → Outcome → Found
 reached handle r = pick (sameBytes (replyOf r) (nack handle DS-INV-HDL)) Nowhere (servedBy (noted r))
@@ -113,6 +113,13 @@ showsService view c handle v = showsHandle handle (getD (view .services) (placeO
 -- a view shows it registered on that channel
 unfoldable pub showsRegistered : View → ℕ → ℕ → Bool
 showsRegistered view c handle = isFound (firstBelow serviceCount (showsService view c handle))
+
+-- 02, ticket 7: data on a peer's handle "has then reached its service", and whether a reading shows the handle registered there by the peer
+unfoldable pub reachedPeer : ℕ → Outcome → Bool
+reachedPeer handle r = not (sameBytes (replyOf r) (nack handle DS-INV-HDL)) and eqb (noted r .kind) kindPeerData
+
+unfoldable pub showsPeer : List Peer → ℕ → ℕ → Bool
+showsPeer ps c handle = isFound (firstBelow mostIds (λ p. hasHandle handle (getD ps (peerPlace c p) noPeer)))
 
 -- well-formed data under a handle, by its bytes
 pub record WellFormedData (m : List ℕ) (handle : ℕ) : Type 0 where
@@ -142,6 +149,8 @@ pub record Demand3 (l : Lists) (s j : List ℕ) (ds : List Done) (u : Run) : Typ
   pub readsDevices : readingDevices (setupDevices l) (entries u) ≡ devicesShown (u .state)
   -- 02, ticket 6: "Permissions and the pending order join demand 3's reading"
   pub readsOrders : readingOrders setupOrders (entries u) ≡ ordersShown (u .state)
+  -- 02, ticket 7: "demand 3 .. covers them in the same words, with the place of each one's id"
+  pub readsPeers : readingPeers setupPeers (entries u) ≡ peersShown (u .state)
   -- "In each accepted receive of the list ..": at each place of the same list, of what that receive itself returned and left
   pub delivers :
       (before later : List Done) (c handle : ℕ) (m out : List ℕ) (r : Outcome) →
@@ -149,3 +158,10 @@ pub record Demand3 (l : Lists) (s j : List ℕ) (ds : List Done) (u : Run) : Typ
       WellFormedData m handle →
       r .refusal ≡ 0 →
       Delivers (reading (setupView l) (entries (runs (newRun s j) before))) c handle r
+  -- the same of a peer's services
+  pub deliversPeer :
+      (before later : List Done) (c handle : ℕ) (m out : List ℕ) (r : Outcome) →
+      ds ≡ before ++ record { call = act (receive c m) out; gave = r } ∷ later →
+      WellFormedData m handle →
+      r .refusal ≡ 0 →
+      reachedPeer handle r ≡ showsPeer (readingPeers setupPeers (entries (runs (newRun s j) before))) c handle

@@ -1,7 +1,7 @@
--- The refusal numbers "are given in no other case", and so 8: a state as 01 tells it, the words that say it, and the claim that a sound one has words
+-- The refusal numbers "are given in no other case", and so 8: a state as 01 and 02 tell it, the words that say it, and the claim that a sound one has words
 -- and that all words that say it are accepted, whatever those without a meaning in it hold.
 -- Assumes nothing.
-use Prim.Native.Nat.{ℕ, zero, suc, _+_, _*_, _/_, _≤_, _<_}
+use Prim.Native.Nat.{ℕ, zero, suc, _+_, _*_, _/_, _%_, _≤_, _<_}
 use mathlib.Core.Path.{_≡_}
 use mathlib.Core.Bool.{Bool, true}
 use mathlib.Core.List.{List, [], _∷_}
@@ -11,11 +11,12 @@ use Rattle.model.specs.Choice.{pick, tabulate, firstBelow}
 use Rattle.model.specs.declared.Found.{Found}
 use Rattle.model.specs.declared.Found.the-variants.{At}
 use Rattle.model.specs.declared.Removal.{Removal}
-use Rattle.model.specs.Layout.{channelCount, serviceCount, placeCount, mostRecords, mostHeld, highestNumber, highestMinor, stageIdle, stageOffered, stageRegistered, blockWords, stateWords, readyAt, stageAt, handleAt, minorAt, blocksOf, blockIn, blockAt, lastOf, heldOf, outstandingOf, cancelledOf, wordOf, removalOf, withService, withCounts, withRemoval, deviceWords, namePlace, firstDeviceWord, devicesOf, nameBytesIn, shutdownService, panicService, firstPermissionWord, orderNone, orderShutdown, orderPanic, highestDelay, permissionAt, orderOf, delayOf}
+use Rattle.model.specs.Layout.{channelCount, serviceCount, placeCount, mostRecords, mostHeld, highestNumber, highestMinor, stageIdle, stageOffered, stageRegistered, blockWords, stateWords, readyAt, stageAt, handleAt, minorAt, blocksOf, blockIn, blockAt, lastOf, heldOf, outstandingOf, cancelledOf, wordOf, removalOf, withService, withCounts, withRemoval, deviceWords, namePlace, firstDeviceWord, devicesOf, nameBytesIn, shutdownService, panicService, firstPermissionWord, orderNone, orderShutdown, orderPanic, highestDelay, permissionAt, orderOf, delayOf, mostIds, mostPeers, idWords, idPlace, firstIdWord, firstPeerWord, peerWords, idsOf, idIn, idBytesIn, peeredAt, peerHandleAt, peerMinorAt}
 use Rattle.model.specs.Devices.{wordsHolding}
 use Rattle.model.specs.Blocks.{Lists, acceptedLists, setupState, names}
-use Rattle.model.specs.State.{sound}
-use Rattle.model.specs.Reading.{Stage, idle, offered, registered, Order, noOrder, shutdown, panic, Orders}
+use Rattle.model.specs.Peers.{topBit}
+use Rattle.model.specs.State.{ourHandle, sound}
+use Rattle.model.specs.Reading.{Stage, idle, offered, registered, Order, noOrder, shutdown, panic, Orders, Peer, noPeer, peer}
 
 -- "What the agent holds", without words, but for request numbers, of which soundness says nothing. The lists are those of setup's form, with each block and device configured or not as it now is.
 pub record Told : Type 0 where
@@ -27,6 +28,8 @@ pub record Told : Type 0 where
   pub outstanding : Bool
   pub removal : Removal
   pub orders : Orders
+  -- by channel and place of the id
+  pub peers : ℕ → ℕ → Peer
 
 -- a live service, and its handle
 pub data LiveAs : Stage → ℕ → Type 0 where
@@ -55,24 +58,45 @@ pub data ResultTold : ℕ → Type 0 where
   ok : ResultTold 0
   nowork : ResultTold 4
 
--- "a removal has a channel to 3, a handle up to that last number, 1 to 16 records, a position up to their count"
+-- "a removal has a channel to 3, a handle up to that last number, 1 to 16 records, a position up to their count"; by 02, ticket 7, its handle is "the top bit over
+-- 01's range"
 pub record RemovalTold (l : List ℕ) (last : ℕ) (m : Removal) : Type 0 where
   pub channels : m .channel < channelCount
-  pub handles : m .handle ≤ last
+  pub ours : ourHandle 0 ≤ m .handle
+  pub handles : m .handle ≤ ourHandle last
   pub some : 1 ≤ m .count
   pub few : m .count ≤ mostRecords
   pub within : m .position ≤ m .count
   pub collects : CollectedTold l m
   pub results : (i : ℕ) → i < m .position → ResultTold (getD (m .result) i 0)
 
+-- whether there is a peer registration, as a word
+unfoldable pub markTold : Peer → ℕ
+markTold noPeer = 0
+markTold (peer handle minor) = 1
+
+-- a peer registration of a channel
+pub record PeerTold (t : Told) (c p handle minor : ℕ) : Type 0 where
+  pub onReady : t .ready c ≡ true
+  pub listed : p < length (t .lists .ids) / idWords
+  pub low : handle < topBit
+  pub most : minor ≤ idIn (t .lists .ids) 0 p .minor
+
+-- how many there are of the first n ids
+unfoldable pub peersCount : (ℕ → Peer) → ℕ → ℕ
+peersCount ps zero = 0
+peersCount ps (suc p) = peersCount ps p + markTold (ps p)
+
 -- "A state is sound if its blocks keep these rules; services on closed channels are idle; live handles differ and lie between 1 and the last
 -- entry number used ..": 01's sentence, and what the numbers can be: a minor version has 16 bits, a settled record's result is OK or NOWORK. By 02, ticket 1, its
--- devices keep their rules too; by ticket 6 a shutdown's delay has 32 bits.
+-- devices keep their rules too; by ticket 6 a shutdown's delay has 32 bits; by ticket 7 our handles "are the top bit over 01's range", the ids keep their rules, and
+-- "a closed channel has no peer registrations, a ready one at most eight, whose handles lack that bit and differ there, as do their ids, each listed, with no minor
+-- above the list's".
 pub record SoundTold (t : Told) : Type 0 where
   pub lists : acceptedLists (t .lists) ≡ true
   pub onReady : (k handle : ℕ) → k < placeCount → LiveAs (t .service k) handle → t .ready (k / serviceCount) ≡ true
-  pub least : (k handle : ℕ) → k < placeCount → LiveAs (t .service k) handle → 1 ≤ handle
-  pub most : (k handle : ℕ) → k < placeCount → LiveAs (t .service k) handle → handle ≤ t .last
+  pub least : (k handle : ℕ) → k < placeCount → LiveAs (t .service k) handle → ourHandle 1 ≤ handle
+  pub most : (k handle : ℕ) → k < placeCount → LiveAs (t .service k) handle → handle ≤ ourHandle (t .last)
   pub differ :
       (j k handle : ℕ) →
       j < k →
@@ -86,6 +110,16 @@ pub record SoundTold (t : Told) : Type 0 where
   pub numbered : t .held ≤ t .last
   pub removes : t .outstanding ≡ true → RemovalTold (t .lists .blocks) (t .last) (t .removal)
   pub delays : (delay : ℕ) → t .orders .order ≡ shutdown delay → delay ≤ highestDelay
+  pub peers : (c p handle minor : ℕ) → c < channelCount → p < mostIds → t .peers c p ≡ peer handle minor → PeerTold t c p handle minor
+  pub peersDiffer :
+      (c q p handle m n : ℕ) →
+      c < channelCount →
+      q < p →
+      p < mostIds →
+      t .peers c q ≡ peer handle m →
+      t .peers c p ≡ peer handle n →
+      ⊥
+  pub peersFew : (c : ℕ) → c < channelCount → peersCount (t .peers c) mostIds ≤ mostPeers
 
 -- three words say a service
 unfoldable pub SaysService : ℕ → ℕ → ℕ → Stage → Type 0
@@ -111,6 +145,11 @@ SaysOrder order delay noOrder = order ≡ orderNone
 SaysOrder order delay (shutdown d) = (order ≡ orderShutdown) × (delay ≡ d)
 SaysOrder order delay panic = order ≡ orderPanic
 
+-- three words say a peer registration
+unfoldable pub SaysPeer : ℕ → ℕ → ℕ → Peer → Type 0
+SaysPeer mark handle minor noPeer = mark ≡ 0
+SaysPeer mark handle minor (peer h m) = (mark ≡ 1) × (handle ≡ h) × (minor ≡ m)
+
 -- the words s say the state t: of the words that have a meaning in it, those of request numbers left out
 pub record Says (s : List ℕ) (t : Told) : Type 0 where
   pub ready : (c : ℕ) → c < channelCount → readyAt s c ≡ wordOf (t .ready c)
@@ -133,8 +172,17 @@ pub record Says (s : List ℕ) (t : Told) : Type 0 where
   pub shutdowns : permissionAt s shutdownService ≡ wordOf (t .orders .shutdownPermitted)
   pub panics : permissionAt s panicService ≡ wordOf (t .orders .panicPermitted)
   pub order : SaysOrder (orderOf s) (delayOf s) (t .orders .order)
+  -- the words that say an id: all up to the last that holds it
+  pub ids : idsOf s ≡ length (t .lists .ids) / idWords
+  pub id :
+      (p : ℕ) →
+      p < length (t .lists .ids) / idWords →
+      (j : ℕ) →
+      j < idPlace + wordsHolding (idBytesIn (t .lists .ids) 0 p) →
+      getD s (firstIdWord + p * idWords + j) 0 ≡ getD (t .lists .ids) (0 + p * idWords + j) 0
+  pub peer : (c p : ℕ) → c < channelCount → p < mostIds → SaysPeer (peeredAt s c p) (peerHandleAt s c p) (peerMinorAt s c p) (t .peers c p)
 
--- Words that say a state: those without a meaning in it are 0.
+-- Words that say a state: those without a meaning in it are 0, but for those of its lists, which are as given.
 
 -- a service's three words
 unfoldable pub stageTold : Stage → ℕ
@@ -188,18 +236,27 @@ unfoldable pub ordersTold : Orders → List ℕ
 ordersTold o =
     wordOf (o .shutdownPermitted) ∷ wordOf (o .panicPermitted) ∷ orderTold (o .order) ∷ delayTold (o .order) ∷ []
 
+-- the peer registrations: of each channel the marks, the handles, the minor versions
+unfoldable pub peerWordTold : Peer → ℕ → ℕ
+peerWordTold noPeer part = 0
+peerWordTold (peer handle minor) part = getD (1 ∷ handle ∷ minor ∷ []) part 0
+
+unfoldable pub peersTold : (ℕ → ℕ → Peer) → List ℕ
+peersTold ps = tabulate (λ j. peerWordTold (ps (j / peerWords) (j % mostIds)) (j % peerWords / mostIds)) (channelCount * peerWords)
+
 -- all but the removal
 unfoldable pub lowTold : Told → List ℕ
 lowTold t =
     withCounts
-    (servicesTold (t .service) placeCount (sets (sets (setupState (t .lists)) firstPermissionWord (ordersTold (t .orders))) 0 (tabulate (λ c. wordOf (t .ready c)) channelCount)))
+    (servicesTold (t .service) placeCount
+    (sets (sets (sets (setupState (t .lists)) firstPermissionWord (ordersTold (t .orders))) firstPeerWord (peersTold (t .peers))) 0 (tabulate (λ c. wordOf (t .ready c)) channelCount)))
     (t .last)
     (t .held)
 
 unfoldable pub wordsTold : Told → List ℕ
 wordsTold t = pick (t .outstanding) (withRemoval (lowTold t) (removalTold (t .removal))) (lowTold t)
 
--- Every state that 01 calls sound has words, and all words that say it are accepted.
+-- Every state that 01 and 02 call sound has words, and all words that say it are accepted.
 pub record EncodingHolds : Type 0 where
   pub said : (t : Told) → SoundTold t → Says (wordsTold t) t × (length (wordsTold t) ≡ stateWords)
   pub accepted : (s : List ℕ) (t : Told) → Says s t → SoundTold t → sound s ≡ true

@@ -11,6 +11,8 @@
 --   channel c: 0 if no memory request of right form came since service 0 was last registered there, else the next word is the highest number of those
 --   the number of devices; device i: id, configured (0 or 1), busy (0 or 1), the bytes of its name with the zero, the words of its name
 --   services 2 and 3: 1 if requests to it are permitted, else 0; the order that waits (0 none, 1 shutdown, 2 panic), a shutdown's delay
+--   the number of peer ids; id p: major, highest minor, how many bytes it has with the zero, the words that hold it
+--   channel c: for each place of an id 1 if the peer has it registered there, else 0; then the handles; then the minor versions
 -- Assumes nothing.
 use Prim.Native.Nat.{ℕ, _+_, _-_, _*_, _/_, _%_, _^_}
 use mathlib.Core.Bool.{Bool, true, false, not}
@@ -68,6 +70,16 @@ mostDevices = 32
 
 abbrev pub mostNameBytes : ℕ
 mostNameBytes = 256
+
+-- 02, ticket 7: "up to 16 different ids, at most 32 bytes with the zero", "up to eight peer registrations a channel"
+abbrev pub mostIds : ℕ
+mostIds = 16
+
+abbrev pub mostIdBytes : ℕ
+mostIdBytes = 32
+
+abbrev pub mostPeers : ℕ
+mostPeers = 8
 
 -- "at most 64 entries are held"
 abbrev pub mostHeld : ℕ
@@ -290,8 +302,34 @@ orderWord = firstPermissionWord + (serviceCount - shutdownService)
 abbrev pub delayWord : ℕ
 delayWord = orderWord + 1
 
+-- an id's words: its major, and at these places its highest minor, how many bytes it has and the words that hold it
+abbrev pub idMinorPlace : ℕ
+idMinorPlace = 1
+
+abbrev pub idBytesPlace : ℕ
+idBytesPlace = 2
+
+abbrev pub idPlace : ℕ
+idPlace = 3
+
+abbrev pub idWords : ℕ
+idWords = idPlace + mostIdBytes / wordBytes
+
+abbrev pub idCountWord : ℕ
+idCountWord = delayWord + 1
+
+abbrev pub firstIdWord : ℕ
+firstIdWord = idCountWord + 1
+
+-- a channel's peer registrations: whether each id is registered, their handles, their minor versions
+abbrev pub firstPeerWord : ℕ
+firstPeerWord = firstIdWord + mostIds * idWords
+
+abbrev pub peerWords : ℕ
+peerWords = mostIds * 3
+
 abbrev pub stateWords : ℕ
-stateWords = delayWord + 1
+stateWords = firstPeerWord + channelCount * peerWords
 
 -- the words of a removal, outstanding or not
 abbrev pub removalWords : ℕ
@@ -410,6 +448,43 @@ orderOf s = getD s orderWord 0
 abbrev pub delayOf : List ℕ → ℕ
 delayOf s = getD s delayWord 0
 
+-- 02, ticket 7: a listed id: major, highest minor, and its bytes with the zero
+pub record PeerId : Type 0 where
+  pub major : ℕ
+  pub minor : ℕ
+  pub bytes : List ℕ
+
+-- Of id p of those whose words stand in l from at on: how many bytes it has, byte k of the words that hold it, and the id.
+abbrev pub idBytesIn : List ℕ → ℕ → ℕ → ℕ
+idBytesIn l at p = getD l (at + p * idWords + idBytesPlace) 0
+
+unfoldable pub idByteIn : List ℕ → ℕ → ℕ → ℕ → ℕ
+idByteIn l at p k = wordByte (getD l (at + p * idWords + idPlace + k / wordBytes) 0) (k % wordBytes)
+
+unfoldable pub idIn : List ℕ → ℕ → ℕ → PeerId
+idIn l at p = record {
+  major = getD l (at + p * idWords) 0;
+  minor = getD l (at + p * idWords + idMinorPlace) 0;
+  bytes = tabulate (idByteIn l at p) (idBytesIn l at p);
+}
+
+-- the number of the state's ids, and id p
+abbrev pub idsOf : List ℕ → ℕ
+idsOf s = getD s idCountWord 0
+
+abbrev pub idAt : List ℕ → ℕ → PeerId
+idAt s p = idIn s firstIdWord p
+
+-- channel c's peer registration of id p: whether there is one, its handle and its minor version
+abbrev pub peeredAt : List ℕ → ℕ → ℕ → ℕ
+peeredAt s c p = getD s (firstPeerWord + c * peerWords + p) 0
+
+abbrev pub peerHandleAt : List ℕ → ℕ → ℕ → ℕ
+peerHandleAt s c p = getD s (firstPeerWord + c * peerWords + mostIds + p) 0
+
+abbrev pub peerMinorAt : List ℕ → ℕ → ℕ → ℕ
+peerMinorAt s c p = getD s (firstPeerWord + c * peerWords + mostIds + mostIds + p) 0
+
 -- a word as a test, and a test as a word
 abbrev pub isSet : ℕ → Bool
 isSet n = not (eqb n 0)
@@ -443,9 +518,10 @@ removalHead m =
 
 -- The changes.
 
--- a channel ready (1) or closed (0), and all its services idle
+-- a channel ready (1) or closed (0), all its services idle, and no peer registration (02, ticket 7: "INIT_REQ and closing drop them")
 unfoldable pub withChannel : List ℕ → ℕ → ℕ → List ℕ
-withChannel s c ready = sets (set s c ready) (firstStageWord + c * channelWords) (replicate channelWords 0)
+withChannel s c ready =
+    sets (sets (set s c ready) (firstStageWord + c * channelWords) (replicate channelWords 0)) (firstPeerWord + c * peerWords) (replicate mostIds 0)
 
 unfoldable pub withService : List ℕ → ℕ → ℕ → ℕ → ℕ → List ℕ
 withService s k stage handle minor = sets s (firstStageWord + k * serviceWords) (stage ∷ handle ∷ minor ∷ [])
@@ -478,3 +554,11 @@ withPermission s v permitted = set s (firstPermissionWord + (v - shutdownService
 
 unfoldable pub withOrder : List ℕ → ℕ → ℕ → List ℕ
 withOrder s order delay = sets s orderWord (order ∷ delay ∷ [])
+
+-- channel c's peer registration of id p: made, and ended
+unfoldable pub withPeer : List ℕ → ℕ → ℕ → ℕ → ℕ → List ℕ
+withPeer s c p handle minor =
+    set (set (set s (firstPeerWord + c * peerWords + p) 1) (firstPeerWord + c * peerWords + mostIds + p) handle) (firstPeerWord + c * peerWords + mostIds + mostIds + p) minor
+
+unfoldable pub withoutPeer : List ℕ → ℕ → ℕ → List ℕ
+withoutPeer s c p = set s (firstPeerWord + c * peerWords + p) 0

@@ -1,6 +1,7 @@
 pub mod Choice
 pub mod Layout
 pub mod Devices
+pub mod Peers
 pub mod Blocks
 pub mod Search
 pub mod State

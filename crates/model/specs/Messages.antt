@@ -3,20 +3,21 @@
 use Prim.Native.Nat.{ℕ, _+_, _-_, min}
 use mathlib.Core.Bool.{Bool, false, not}
 use mathlib.Core.List.{List, [], _∷_, _++_}
-use lib.ListN.{length, getD}
-use lib.Dec.{leb, eqb}
+use lib.ListN.{length, getD, drop}
+use lib.Dec.{leb, ltb, eqb}
 use Rattle.wire.specs.BigEndian.{byteAt, numberAt, bytesOf}
-use Rattle.model.specs.Choice.{pick, _and_, _or_, every, firstBelow}
+use Rattle.model.specs.Choice.{pick, _and_, _or_, every, firstBelow, isFound}
 use Rattle.model.specs.declared.Found.{Found}
 use Rattle.model.specs.declared.Found.the-variants.{At, Nowhere}
 use Rattle.model.specs.declared.Route.{Route}
 use Rattle.model.specs.declared.Route.the-variants.{Memory, Devices, Orders, Host}
 use Rattle.model.specs.declared.Message.{Message}
 use Rattle.model.specs.declared.Message.the-variants.{InitReq, RegReq, RegAck, RegNack, Unreg, UnregAck, UnregNack, Data, Nack, Bad}
-use Rattle.model.specs.Layout.{serviceCount, memoryService, deviceService, shutdownService, panicService, dsHeaderBytes, stageIdle, stageOffered, stageRegistered, placeOf, stageAt, handleAt, lastOf, withChannel, withService, withNumber}
+use Rattle.model.specs.Layout.{serviceCount, memoryService, deviceService, shutdownService, panicService, dsHeaderBytes, stageIdle, stageOffered, stageRegistered, placeOf, stageAt, handleAt, lastOf, withChannel, withService, withNumber, mostIds, mostPeers, idAt, withPeer, withoutPeer}
+use Rattle.model.specs.Peers.{topBit, listedId, isPeered, peerFor, peersBelow}
 use Rattle.model.specs.State.{ourHandle}
 use Rattle.model.specs.declared.Event.{Event}
-use Rattle.model.specs.Journal.{readyEvent, closedEvent, versionRefusedEvent, offeredEvent, registeredEvent, offerRefusedEvent, serviceEndedEvent, notedEvent}
+use Rattle.model.specs.Journal.{readyEvent, closedEvent, versionRefusedEvent, offeredEvent, registeredEvent, offerRefusedEvent, serviceEndedEvent, notedEvent, peerRegisteredEvent, peerEndedEvent}
 
 -- "Four services, from a table": id with its zero, major and minor version
 pub record Service : Type 0 where
@@ -93,6 +94,9 @@ DS-NACK = 0xa
 abbrev pub DS-REG-VER-NACK : ℕ
 DS-REG-VER-NACK = 1
 
+abbrev pub DS-REG-DUP : ℕ
+DS-REG-DUP = 2
+
 abbrev pub DS-INV-HDL : ℕ
 DS-INV-HDL = 3
 
@@ -120,6 +124,10 @@ unfoldable pub regReq : ℕ → Service → List ℕ
 regReq handle service =
     dsMessage DS-REG-REQ
     (bytesOf 8 handle ++ bytesOf 2 (service .major) ++ bytesOf 2 (service .minor) ++ service .id)
+
+-- svc_handle, minor_vers
+unfoldable pub regAck : ℕ → ℕ → List ℕ
+regAck handle minor = dsMessage DS-REG-ACK (bytesOf 8 handle ++ bytesOf 2 minor)
 
 -- svc_handle, result, major_vers
 unfoldable pub regNack : ℕ → ℕ → ℕ → List ℕ
@@ -271,12 +279,62 @@ unfoldable pub notAcknowledged : List ℕ → ℕ → Found → Effect
 notAcknowledged s c (At v) = effect (offerRefusedEvent c v) (withIdle s c v) []
 notAcknowledged s c Nowhere = noting s c DS-REG-NACK []
 
+-- 02, ticket 7. The peer's own registration that has the handle, if there is one, is ended like one of ours.
+unfoldable pub peerUnregistered : List ℕ → ℕ → ℕ → Found → Effect
+peerUnregistered s c handle (At p) = effect (peerEndedEvent c handle) (withoutPeer s c p) (unregAck handle)
+peerUnregistered s c handle Nowhere = noting s c DS-UNREG (unregNack handle)
+
 -- "UNREG from the peer for a live handle (offered or registered) does so and replies UNREG_ACK, else UNREG_NACK."
 unfoldable pub unregistered : List ℕ → ℕ → ℕ → Found → Effect
 unregistered s c handle (At v) = effect (serviceEndedEvent c v) (withIdle s c v) (unregAck handle)
-unregistered s c handle Nowhere = noting s c DS-UNREG (unregNack handle)
+unregistered s c handle Nowhere = peerUnregistered s c handle (peerFor s c handle)
 
--- "Offer sends REG_REQ with the id and its zero. The handle is the number of the offer's own entry, so none is used twice."
+-- A REG_REQ of the peer, m: svc_handle, major_vers, minor_vers, svc_id.
+abbrev pub regHandle : List ℕ → ℕ
+regHandle m = numberAt m 8 8
+
+abbrev pub regMajor : List ℕ → ℕ
+regMajor m = numberAt m 16 2
+
+abbrev pub regMinor : List ℕ → ℕ
+regMinor m = numberAt m 18 2
+
+abbrev pub regId : List ℕ → List ℕ
+regId m = drop 20 m
+
+-- one that registers nothing: "17 any other message (w its type)"
+abbrev pub notRegistering : List ℕ → ℕ → List ℕ → ℕ → ℕ → Effect
+notRegistering s c m result major = noting s c DS-REG-REQ (regNack (regHandle m) result major)
+
+-- the id at this place is registered there by the peer
+unfoldable pub idTaken : List ℕ → ℕ → Found → Bool
+idTaken s c (At p) = isPeered s c p
+idTaken s c Nowhere = false
+
+-- "A handle with the top bit, a handle or id of a peer registration on its channel, or a ninth one"
+unfoldable pub isDuplicate : List ℕ → ℕ → List ℕ → Bool
+isDuplicate s c m =
+    leb topBit (regHandle m)
+    or isFound (peerFor s c (regHandle m))
+    or idTaken s c (listedId s (regId m))
+    or leb mostPeers (peersBelow s c mostIds)
+
+-- "The right major is acknowledged with the lower minor; a higher major is told ours; a lower one gets 0, as does an unknown id."
+unfoldable pub registeringAt : List ℕ → ℕ → List ℕ → Found → Effect
+registeringAt s c m (At p) =
+    pick (eqb (regMajor m) (idAt s p .major))
+    (effect (peerRegisteredEvent c p (min (idAt s p .minor) (regMinor m)) (regHandle m))
+    (withPeer s c p (regHandle m) (min (idAt s p .minor) (regMinor m)))
+    (regAck (regHandle m) (min (idAt s p .minor) (regMinor m))))
+    (notRegistering s c m DS-REG-VER-NACK (pick (ltb (idAt s p .major) (regMajor m)) (idAt s p .major) 0))
+registeringAt s c m Nowhere = notRegistering s c m DS-REG-VER-NACK 0
+
+-- ".. is DS_REG_DUP with major 0, tested first."
+unfoldable pub registering : List ℕ → ℕ → List ℕ → Effect
+registering s c m = pick (isDuplicate s c m) (notRegistering s c m DS-REG-DUP 0) (registeringAt s c m (listedId s (regId m)))
+
+-- "Offer sends REG_REQ with the id and its zero. The handle is the number of the offer's own entry, so none is used twice." 02, ticket 7: "Our handles now have that
+-- bit set over the entry number."
 unfoldable pub offering : List ℕ → ℕ → ℕ → Effect
 offering s c v =
     effect (offeredEvent c v)

@@ -1,9 +1,12 @@
--- "A state is sound if ..". Beyond 01's sentence a word that no reading could mean (a ready, configured, busy, outstanding or cancelled flag above 1, a byte other than 0 after a device's name in its last word, a permission above 1, an order above 2, a shutdown's delay of more than 32 bits, a stage above 2, a registered minor
--- above 65,535, a settled record's result other than OK or NOWORK) makes a state not sound. Words without a meaning in the present state (an idle
--- service's handle and minor, an offered one's minor, blocks past the count, a removal's words while none is outstanding, its records past
--- the count, results from the position on, devices past the count, words past a device's name, the delay without a shutdown's order) are free, and so are the words of request numbers, in which any number means something.
+-- "A state is sound if ..". Beyond the sentences of 01 and 02 a word that no reading could mean (a ready, configured, busy, outstanding or cancelled flag above 1, a
+-- byte other than 0 after a device's name or an id in its last word, a permission above 1, an order above 2, a shutdown's delay of more than 32 bits, a stage above
+-- 2, a registered minor, or an id's major or minor, above 65,535, a mark of a peer registration above 1, a settled record's result other than OK or NOWORK) makes a
+-- state not sound. Words without a meaning in the present state (an idle service's handle and minor, an offered one's minor, blocks past the count, a removal's
+-- words while none is outstanding, its records past the count, results from the position on, devices and ids past the count, words past a device's name or an id,
+-- the handle and minor of an id that is not registered, the delay without a shutdown's order) are free, and so are the words of request numbers, in which any
+-- number means something.
 -- Assumes nothing.
-use Prim.Native.Nat.{ℕ, _/_}
+use Prim.Native.Nat.{ℕ, _+_, _/_}
 use mathlib.Core.Bool.{Bool, not}
 use mathlib.Core.List.{List}
 use lib.ListN.{getD}
@@ -12,15 +15,16 @@ use Rattle.model.specs.Choice.{pick, _and_, _or_, every}
 use Rattle.model.specs.declared.Found.{Found}
 use Rattle.model.specs.declared.Found.the-variants.{At, Nowhere}
 use Rattle.model.specs.declared.Removal.{Removal}
-use Rattle.model.specs.Layout.{channelCount, serviceCount, placeCount, mostRecords, mostHeld, highestNumber, highestMinor, stageIdle, stageOffered, stageRegistered, readyAt, stageAt, handleAt, minorAt, firstBlockWord, blocksOf, blockAt, lastOf, heldOf, outstandingOf, cancelledOf, removalOf, firstDeviceWord, devicesOf, shutdownService, panicService, orderPanic, orderShutdown, highestDelay, permissionAt, orderOf, delayOf}
+use Rattle.model.specs.Layout.{channelCount, serviceCount, placeCount, mostRecords, mostHeld, highestNumber, highestMinor, stageIdle, stageOffered, stageRegistered, readyAt, stageAt, handleAt, minorAt, firstBlockWord, blocksOf, blockAt, lastOf, heldOf, outstandingOf, cancelledOf, removalOf, firstDeviceWord, devicesOf, shutdownService, panicService, orderPanic, orderShutdown, highestDelay, permissionAt, orderOf, delayOf, firstIdWord, idsOf}
 use Rattle.model.specs.Devices.{devicesKeep}
+use Rattle.model.specs.Peers.{topBit, idsKeep, peersSound}
 use Rattle.model.specs.Blocks.{blocksKeep, namedBlock}
 
--- "The handle is the number of the offer's own entry": our handle of entry n
+-- "The handle is the number of the offer's own entry"; 02, ticket 7: "Our handles now have that bit set over the entry number": our handle of entry n
 abbrev pub ourHandle : ℕ → ℕ
-ourHandle n = n
+ourHandle n = topBit + n
 
--- a handle may be one of ours: it is none below that of entry `first` and none above that of entry `last` (a removal's may be 0)
+-- a handle may be one of ours: it is none below that of entry `first` and none above that of entry `last` (of a removal's the entry may be 0)
 unfoldable pub isOurs : ℕ → ℕ → ℕ → Bool
 isOurs first last handle = leb (ourHandle first) handle and leb handle (ourHandle last)
 
@@ -67,7 +71,8 @@ resultSound result = eqb result 0 or eqb result 4
 unfoldable pub resultsSound : Removal → Bool
 resultsSound m = every (m .position) (λ i. resultSound (getD (m .result) i 0))
 
--- "a removal has a channel to 3, a handle up to that last number, 1 to 16 records, a position up to their count, and pages collected .."
+-- "a removal has a channel to 3, a handle up to that last number, 1 to 16 records, a position up to their count, and pages collected .."; 02, ticket 7: "ours, the
+-- removal's too, are the top bit over 01's range"
 unfoldable pub removalSound : List ℕ → ℕ → Removal → Bool
 removalSound s last m =
     ltb (m .channel) channelCount
@@ -105,3 +110,5 @@ sound s =
     and outstandingSound s
     and devicesKeep s firstDeviceWord (devicesOf s)
     and ordersSound s
+    and idsKeep s firstIdWord (idsOf s)
+    and every channelCount (λ c. peersSound s (readyAt s c) c)

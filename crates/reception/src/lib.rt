@@ -15,9 +15,10 @@ ghost use Prim.Native.Nat.{_≤_, _<_};
 ghost use lib.ListN.{length};
 ghost use Rattle.model.specs.declared.Found.the-variants.{At, Nowhere};
 ghost use Rattle.model.specs.Layout.{channelCount, outputBytes};
+ghost use Rattle.model.specs.Peers.{peerFor};
 ghost use Rattle.model.specs.State.{sound};
 ghost use Rattle.model.specs.Messages.{decoded, registeredFor};
-ghost use Rattle.model.specs.Calls.{dataFor, heard, receiving, isHost, goesToHost, toHost};
+ghost use Rattle.model.specs.Calls.{dataFor, peerData, heard, receiving, isHost, goesToHost, shownTo, toHost};
 ghost use Rattle.model.specs.Handler.{Handles};
 
 // Whether a channel hears a message: INIT_REQ at any time, any other well-formed message if it is ready.
@@ -56,20 +57,29 @@ fn deliver(
 }
 
 // "Otherwise the reply is NACK with the handle and result 3."
-fn refuse_data(
-    state: &State,
-    channel: usize,
-    handle: u64,
-    payload: &[u8],
-    out: &mut [u8],
-) -> Handled
+fn refuse_data(state: &State, channel: usize, handle: u64, out: &mut [u8]) -> Handled
     requires { ⌜ outputBytes ≤ length (now out) ⌝ }
-    ensures { λ r. ⌜ Handles (dataFor (now (state .entry)) channel handle (now (payload .entry)) Nowhere) (now (out .entry)) (r .length) (r .event) (now (state .entry)) (now (out .exit)) ⌝ }
+    ensures { λ r. ⌜ Handles (peerData (now (state .entry)) channel handle Nowhere) (now (out .entry)) (r .length) (r .event) (now (state .entry)) (now (out .exit)) ⌝ }
 {
     let length = services::put_nack(out, handle, DS_INV_HDL);
     Handled {
         length: length,
         event: events::data_refused(channel as u64, handle),
+    }
+}
+
+// DATA for no service of ours: "data on a live peer handle goes to the host with kind 24".
+fn take_peer_data(state: &State, channel: usize, handle: u64, out: &mut [u8]) -> Handled
+    requires { ⌜ (channel < channelCount) × (outputBytes ≤ length (now out)) ⌝ }
+    ensures { λ r. ⌜ Handles (peerData (now (state .entry)) channel handle (peerFor (now (state .entry)) channel handle)) (now (out .entry)) (r .length) (r .event) (now (state .entry)) (now (out .exit)) ⌝ }
+{
+    let found = peers::find_peer(state, channel, handle);
+    match found {
+        Found::At { place: _ } => Handled {
+            length: 0,
+            event: events::peer_data(channel as u64),
+        },
+        Found::Nowhere => refuse_data(state, channel, handle, out),
     }
 }
 
@@ -87,7 +97,7 @@ fn take_data(
     let found = state::find_staged(state, channel, handle, REGISTERED);
     match found {
         Found::At { place } => deliver(state, channel, place, handle, payload, out),
-        Found::Nowhere => refuse_data(state, channel, handle, payload, out),
+        Found::Nowhere => take_peer_data(state, channel, handle, out),
     }
 }
 
@@ -104,7 +114,7 @@ fn hear(
 {
     match decoded {
         Message::InitReq { major } => protocol::initiate(state, channel, major, out),
-        Message::RegReq { handle } => protocol::refuse_registration(state, channel, handle, out),
+        Message::RegReq { handle: _ } => registration::register_peer(state, channel, message, out),
         Message::RegAck { handle, minor } => protocol::acknowledge(state, channel, handle, minor),
         Message::RegNack { handle } => protocol::not_acknowledge(state, channel, handle),
         Message::Unreg { handle } => protocol::unregister(state, channel, handle, out),
@@ -156,18 +166,24 @@ fn is_host(route: Route) -> bool
     }
 }
 
+// Data under the handle goes to the host: to a service that we have registered, or to one of the peer's.
+fn is_shown(state: &State, channel: usize, handle: u64) -> bool
+    requires { ⌜ channel < channelCount ⌝ }
+    ensures { λ r. ⌜ r ≡ shownTo (now (state .entry)) channel handle ⌝ }
+{
+    if goes_to_host(state::find_staged(state, channel, handle, REGISTERED)) {
+        return true;
+    }
+    peers::has_handle(state, channel, handle)
+}
+
 // The message is data for the host.
 pub fn is_to_host(state: &State, channel: usize, message: Message) -> bool
     requires { ⌜ channel < channelCount ⌝ }
     ensures { λ r. ⌜ r ≡ toHost (now (state .entry)) channel message ⌝ }
 {
     match message {
-        Message::Data { handle } => goes_to_host(state::find_staged(
-            state,
-            channel,
-            handle,
-            REGISTERED,
-        )),
+        Message::Data { handle } => is_shown(state, channel, handle),
         _ => false,
     }
 }

@@ -3,6 +3,7 @@ use model::DEVICE_SERVICE;
 use model::DS_INIT_ACK;
 use model::DS_INIT_NACK;
 use model::DS_NACK;
+use model::DS_REG_ACK;
 use model::DS_REG_NACK;
 use model::DS_REG_REQ;
 use model::DS_UNREG;
@@ -26,6 +27,7 @@ ghost use Rattle.model.specs.Messages.{
   initAck,
   initNack,
   regReq,
+  regAck,
   regNack,
   unreg,
   unregAck,
@@ -195,6 +197,17 @@ fn put_result(out: &mut [u8], message_type: u32, payload_len: u32, handle: u64, 
     put_header(out, message_type, payload_len);
     wire::put64(out, 8, handle);
     wire::put64(out, 16, result);
+}
+
+// REG_ACK: svc_handle, minor_vers.
+pub fn put_reg_ack(out: &mut [u8], handle: u64, minor: u16) -> usize
+    requires { ⌜ outputBytes ≤ length (now out) ⌝ }
+    ensures { λ r. ⌜ Wrote (regAck handle minor) (now (out .entry)) r (now (out .exit)) ⌝ }
+{
+    put_header(out, DS_REG_ACK, 10);
+    wire::put64(out, 8, handle);
+    wire::put16(out, 16, minor);
+    18
 }
 
 // REG_NACK: svc_handle, result, major_vers.

@@ -1,6 +1,7 @@
 //! What a step may do.
 
 use super::messages::{self, Live};
+use super::peers;
 use super::random::Random;
 use super::Generator;
 use crate::block::PAGE;
@@ -12,7 +13,7 @@ use crate::{build, memory, wire};
 /// An action, its weight, and whether it tends to undo what was built up.
 type Action = (fn(&mut Generator), u64, bool);
 
-pub(super) const ACTIONS: [Action; 26] = [
+pub(super) const ACTIONS: [Action; 33] = [
     (Generator::prepare, 30, false),
     (Generator::prepare_memory, 20, false),
     (Generator::good_memory, 30, false),
@@ -28,6 +29,13 @@ pub(super) const ACTIONS: [Action; 26] = [
     (Generator::show, 4, false),
     (Generator::stray_data, 4, false),
     (Generator::noted, 4, false),
+    (Generator::peer_register, 24, false),
+    (Generator::peer_fill, 2, false),
+    (Generator::peer_data, 12, false),
+    (Generator::peer_unreg, 6, false),
+    (Generator::peer_stray, 5, false),
+    (Generator::peer_drop, 2, true),
+    (Generator::odd_peer_line, 1, false),
     (Generator::reg_req, 2, false),
     (Generator::registration, 5, true),
     (Generator::offer, 5, false),
@@ -253,8 +261,7 @@ impl Generator {
 
     fn reg_req(&mut self) {
         let channel = self.channel();
-        let handle = self.handle(channel);
-        let message = messages::reg_req(&mut self.random, handle);
+        let message = peers::reg_req(&mut self.random, &self.host.state, channel);
         self.receive(channel, message);
     }
 

@@ -1,10 +1,10 @@
 //! Random messages: well-formed ones of every type, and damaged ones.
 
 use super::random::Random;
-use super::{devices, orders};
+use super::{devices, orders, peers};
 use crate::block::{Block, Pair, PAGE};
 use crate::removal::MAX_RECORDS;
-use crate::state::{Service, State, CHANNELS};
+use crate::state::{Service, State, CHANNELS, TOP_BIT};
 use crate::{build, memory, wire};
 
 /// A live service: its channel, number, handle, and whether it is registered.
@@ -38,40 +38,27 @@ pub fn pick_live(random: &mut Random, state: &State, fits: impl Fn(&Live) -> boo
     random.pick_any(&fitting)
 }
 
-/// A handle for a message on `channel`: live there, live elsewhere, old, or
-/// one that agrees with a live one in 32 bits only.
+/// A handle for a message on `channel`: one of ours that is live there, live
+/// elsewhere, old, or that agrees with a live one in 32 bits or without its top
+/// bit only, or one of the peer's.
 pub fn handle(random: &mut Random, state: &State, channel: u64) -> u64 {
-    let kind = random.weighted(&[50, 10, 15, 8, 6, 6, 5]);
+    let kind = random.weighted(&[50, 10, 13, 6, 5, 6, 6, 5, 10]);
     let here = kind == 0 || random.once_in(2);
     let near = pick_live(random, state, |live| (live.channel == channel) == here)
-        .map_or(state.last, |live| live.handle);
+        .map_or(TOP_BIT | state.last, |live| live.handle);
     match kind {
         0 | 1 => near,
-        2 => random.between(0, state.last),
-        3 => near | random.pick(&[1 << 32, 1 << 63, 0xffff_ffff << 32, 7 << 32]),
+        2 => TOP_BIT | random.between(0, state.last),
+        3 => near | random.pick(&[1 << 32, 1 << 62, 0xffff_ffff << 32, 7 << 32]),
         4 => near << 32,
         5 => near ^ random.between(1, 15),
-        _ => random.pick(&[0, u64::MAX, state.last + 1, 1 << 32, 0xffff_ffff]),
+        6 => near ^ TOP_BIT,
+        7 => {
+            let next = TOP_BIT | (state.last + 1);
+            random.pick(&[0, u64::MAX, TOP_BIT, next, 1 << 32, 0xffff_ffff])
+        }
+        _ => peers::handle(random, state),
     }
-}
-
-/// An id for REG_REQ with its zero, of 1 to 1,024 bytes; a few are bad.
-fn id(random: &mut Random) -> Vec<u8> {
-    let length = match random.weighted(&[70, 10, 10, 5, 5]) {
-        0 => random.between(2, 20),
-        1 => 1,
-        2 => random.between(21, 60),
-        3 => 1_024,
-        _ => random.pick(&[1_023, 1_025, 1_026]),
-    };
-    let mut id: Vec<u8> = (0..length).map(|_| random.between(1, 255) as u8).collect();
-    id[length as usize - 1] = 0;
-    match random.weighted(&[90, 5, 5]) {
-        0 => {}
-        1 => id[random.below(length) as usize] = 0,
-        _ => id[length as usize - 1] = b'x',
-    }
-    id
 }
 
 /// A message of a random type that is mostly well formed.
@@ -79,7 +66,7 @@ pub fn any(random: &mut Random, state: &State, channel: u64) -> Vec<u8> {
     let handle = handle(random, state, channel);
     match random.below(12) {
         0 => init_req(random),
-        1 => reg_req(random, handle),
+        1 => peers::reg_req(random, state, channel),
         2 | 3 => registration(random, handle),
         4 => build::of_handle(wire::UNREG, handle),
         5 | 6 => noted(random, handle),
@@ -106,11 +93,6 @@ pub fn any(random: &mut Random, state: &State, channel: u64) -> Vec<u8> {
 pub fn init_req(random: &mut Random) -> Vec<u8> {
     let major = random.pick(&[1, 1, 1, 1, 0, 2, 3, 0x100, 0xffff]);
     build::init_req(major, random.pick(&[0, 0, 1, 0xffff]))
-}
-
-pub fn reg_req(random: &mut Random, handle: u64) -> Vec<u8> {
-    let id = id(random);
-    build::reg_req(handle, random.below(3) as u16, random.below(3) as u16, &id)
 }
 
 /// REG_ACK or REG_NACK.

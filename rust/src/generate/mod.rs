@@ -6,6 +6,7 @@ mod devices;
 mod messages;
 pub(crate) mod noise;
 mod orders;
+mod peers;
 pub mod random;
 pub(crate) mod setups;
 pub(crate) mod text;
@@ -180,7 +181,8 @@ impl Generator {
         }
         let words = setups::good(&mut self.random);
         let devices = devices::good(&mut self.random);
-        self.set_up(words, devices);
+        let ids = peers::good(&mut self.random);
+        self.set_up(words, devices, ids);
         let end = self.stop.min(self.calls + self.mixture.length);
         while self.calls < end {
             self.step();
@@ -190,16 +192,20 @@ impl Generator {
         }
     }
 
-    /// A setup that is refused for its blocks, its devices or both, and some
+    /// A setup that is refused for one of its lists or for several, and some
     /// calls on the empty state.
     fn refused_setup(&mut self) {
         let random = &mut self.random;
-        let (blocks, devices) = match random.weighted(&[45, 50, 5]) {
-            0 => (setups::bad(random), devices::good(random)),
-            1 => (setups::good(random), devices::bad(random)),
-            _ => (setups::bad(random), devices::bad(random)),
+        let bad = match random.weighted(&[28, 34, 34, 4]) {
+            0 => [true, false, false],
+            1 => [false, true, false],
+            2 => [false, false, true],
+            _ => [random.once_in(2), random.once_in(2), random.once_in(2)],
         };
-        self.set_up(blocks, devices);
+        let blocks = if bad[0] { setups::bad } else { setups::good }(random);
+        let devices = if bad[1] { devices::bad } else { devices::good }(random);
+        let ids = if bad[2] { peers::bad } else { peers::good }(random);
+        self.set_up(blocks, devices, ids);
         self.show_state();
         for _ in 0..self.random.pick(&[0, 0, 1, 3, 10]) {
             self.step();

@@ -3,7 +3,7 @@
 use super::random::Random;
 use crate::lines::MAX_LINE;
 
-pub const ODD: [&[u8]; 78] = [
+pub const ODD: [&[u8]; 83] = [
     b"",
     b"\r",
     b" \r",
@@ -70,6 +70,11 @@ pub const ODD: [&[u8]; 78] = [
     b"device 1 0 0 00\r",
     b"device\t1 0 0 00",
     b"setup 0 1  0 0 0",
+    b"Peer 1 0 00",
+    b" peer 1 0 00",
+    b"peers 1 0 00",
+    b"peer 1 0 00\r",
+    b"peer\t1 0 00",
     b"permit",
     b"permit 2",
     b"permit 2 ",

@@ -35,6 +35,11 @@ pub fn write_call(call: &Call, random: &mut Random, text: &mut Vec<u8>) {
             }
             write_bytes(&device.name, random, text);
         }
+        Call::Peer(ref id) => {
+            write_number(id.major, random, text);
+            write_number(id.minor, random, text);
+            write_bytes(&id.id, random, text);
+        }
     }
 }
 

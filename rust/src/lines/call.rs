@@ -1,6 +1,7 @@
 //! One line as a call.
 
 use super::device::DeviceLine;
+use super::peer::PeerLine;
 use super::Ask;
 
 /// A drain's run has 0 to 256 words.
@@ -11,7 +12,7 @@ pub const MAX_OUTPUT: u64 = 4_096;
 pub const MAX_JOURNAL: u64 = 200;
 
 /// A call, or one of the lines that ask for the state, set a size or add a
-/// device.
+/// device or an id.
 #[derive(Clone, Debug, PartialEq, Eq)]
 pub enum Call {
     Setup(Vec<u64>),
@@ -26,6 +27,7 @@ pub enum Call {
     Output(usize),
     Journal(usize),
     Device(DeviceLine),
+    Peer(PeerLine),
     Permit(u64, bool),
     Take,
 }
@@ -41,6 +43,9 @@ impl Ask for Call {
         }
         if name == b"device" {
             return DeviceLine::from_fields(fields).map(Call::Device);
+        }
+        if name == b"peer" {
+            return PeerLine::from_fields(fields).map(Call::Peer);
         }
         // No other call has more than two fields.
         let (first, second, third) = (fields.next(), fields.next(), fields.next());
@@ -79,7 +84,7 @@ impl Call {
     pub fn is_counted(&self) -> bool {
         !matches!(
             self,
-            Call::State | Call::Output(_) | Call::Journal(_) | Call::Device(_)
+            Call::State | Call::Output(_) | Call::Journal(_) | Call::Device(_) | Call::Peer(_)
         )
     }
 
@@ -98,6 +103,7 @@ impl Call {
             Call::Output(_) => "output",
             Call::Journal(_) => "journal",
             Call::Device(_) => "device",
+            Call::Peer(_) => "peer",
             Call::Permit(..) => "permit",
             Call::Take => "take",
         }

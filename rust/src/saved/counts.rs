@@ -3,10 +3,10 @@
 use super::damage::Damage;
 use super::File;
 use crate::block::Blocks;
-use crate::entry::{COUNT, KIND, SERVICE};
+use crate::entry::{CHANNEL, COUNT, KIND, SERVICE};
 use crate::reader::fields::{named, KINDS};
-use crate::reader::{output, Verdict, ENTRY, WORD};
-use crate::state::SERVICES;
+use crate::reader::{output, Reading, Verdict, ENTRY, WORD};
+use crate::state::{SERVICES, TOP_BIT};
 use crate::wire::get64;
 use std::collections::BTreeMap;
 use std::fmt::{self, Display, Formatter};
@@ -27,6 +27,15 @@ const GROWN: [&str; 3] = [
     "begun anew after pages collected",
     "begun anew after a record settled",
 ];
+
+/// Data refused under a registered handle without its top bit.
+const BARE: &str = "good kind  9 of a registered handle without its top bit";
+
+/// Whether an entry is of `BARE`, after the reading before it.
+fn is_bare(before: &Reading, first: u64, second: u64) -> bool {
+    let channel = &before.channels[CHANNEL.of(first) as usize];
+    KIND.of(first) == 9 && channel.registered(second ^ TOP_BIT).is_some()
+}
 
 /// The removal of a good file, as far as these need it: pages that no longer
 /// count, records settled.
@@ -84,6 +93,7 @@ impl Default for Counts {
         let names = names.chain(kinds).chain(shown).chain(grown);
         let answered = (0..SERVICES).map(|service| format!("good kind 10 of service {service}"));
         let names = names.chain(answered);
+        let names = names.chain([BARE.into()]);
         let names = names.chain(["good file".into(), "good file of no entries".into()]);
         Counts {
             listed: names.map(|name| (name, 0)).collect(),
@@ -91,6 +101,12 @@ impl Default for Counts {
             damaged: 0,
         }
     }
+}
+
+/// The whole entries of a file whose block list is good.
+fn entries_of(file: &[u8]) -> std::slice::ChunksExact<'_, u8> {
+    let start = WORD + get64(file, 0) as usize * WORD;
+    file[start..].chunks_exact(ENTRY)
 }
 
 impl Counts {
@@ -106,8 +122,8 @@ impl Counts {
             Ok(reading) => reading,
             Err(bad) => return self.add(format!("bad {}", Damage::of(bad))),
         };
-        let start = WORD + get64(&file.bytes, 0) as usize * WORD;
-        let entries = file.bytes[start..].chunks_exact(ENTRY);
+        self.bare(&file.bytes);
+        let entries = entries_of(&file.bytes);
         self.add("good file".into());
         if entries.len() == 0 {
             self.add("good file of no entries".into());
@@ -128,6 +144,22 @@ impl Counts {
             if let (Some(what), Some(_), Some(how)) = (words.next(), words.next(), words.next()) {
                 self.add(format!("shown {what} {how}"));
             }
+        }
+    }
+
+    /// Counts the entries of `BARE` in a good file.
+    fn bare(&mut self, file: &[u8]) {
+        let start = WORD + get64(file, 0) as usize * WORD;
+        let words = file[WORD..start].chunks_exact(WORD);
+        let words: Vec<u64> = words.map(|word| get64(word, 0)).collect();
+        let blocks = Blocks::from_words(&words).expect("a good file");
+        let mut reading = Reading::new(blocks);
+        for entry in entries_of(file) {
+            let (first, second) = (get64(entry, 0), get64(entry, WORD));
+            if is_bare(&reading, first, second) {
+                self.add(BARE.into());
+            }
+            reading.entry([first, second]).expect("a good file");
         }
     }
 
@@ -158,8 +190,8 @@ impl Counts {
 impl Display for Counts {
     fn fmt(&self, text: &mut Formatter) -> fmt::Result {
         for (name, count) in &self.listed {
-            writeln!(text, "{name:36} {count:>10}")?;
+            writeln!(text, "{name:60} {count:>10}")?;
         }
-        writeln!(text, "{:36} {:>10}", "files damaged", self.damaged)
+        writeln!(text, "{:60} {:>10}", "files damaged", self.damaged)
     }
 }

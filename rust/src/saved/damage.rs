@@ -18,11 +18,12 @@ pub enum Damage {
 }
 
 /// What each kind needs, as the ticket says.
-const NEEDS: [(Need, &[usize]); 8] = [
+const NEEDS: [(Need, &[usize]); 9] = [
     (Need::Ready, &[4, 5, 6, 7, 8, 9, 10, 11, 12, 13, 17]),
     (Need::Idle, &[4]),
     (Need::Offered, &[5, 6]),
     (Need::Handle, &[5]),
+    (Need::TopBit, &[5]),
     (Need::Live, &[7]),
     (Need::Registered, &[8, 10, 11, 12, 13]),
     (Need::NotRegistered, &[9]),

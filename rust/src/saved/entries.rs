@@ -4,7 +4,7 @@ use crate::entry::{KIND, NUMBER};
 use crate::generate::random::Random;
 use crate::reader::fields::{named, Field};
 use crate::reader::Reading;
-use crate::state::{Service, CHANNELS, SERVICES};
+use crate::state::{Service, CHANNELS, SERVICES, TOP_BIT};
 
 /// An entry that has the next number, and 0 in each field that its kind does
 /// not name. Its named fields often fit the reading, and often nearly do.
@@ -21,6 +21,7 @@ pub fn entry(random: &mut Random, reading: &Reading, kind: usize) -> [u64; 2] {
             Field::Code => random.pick(&[0, 0, 0, 1, 2, 3, 4, 5, 7]),
             Field::Count => count(random, reading, block),
             Field::W => match kind {
+                5 | 9 if random.once_in(4) => handle(random, reading, channel) & !TOP_BIT,
                 5 | 9 => handle(random, reading, channel),
                 11 => bits(random, reading),
                 15 => block,
@@ -94,17 +95,19 @@ fn count(random: &mut Random, reading: &Reading, block: u64) -> u64 {
     count.min(Field::Count.most())
 }
 
-/// A handle: offered or registered on the channel, nearly one, or any.
+/// A handle: offered or registered on the channel, nearly one (as its bare
+/// entry number), or any.
 fn handle(random: &mut Random, reading: &Reading, channel: u64) -> u64 {
     let services = &reading.channels[channel as usize].services;
     let live: Vec<u64> = services.iter().filter_map(Service::handle).collect();
-    let any = random.up_to(reading.entries + 1);
+    let any = TOP_BIT | random.up_to(reading.entries + 1);
     let live = random.pick_any(&live).unwrap_or(any);
-    match random.weighted(&[70, 15, 5, 5, 5]) {
+    match random.weighted(&[70, 10, 5, 5, 5, 5]) {
         0 => live,
         1 => any,
         2 => live | 1 << 32,
         3 => live << 32,
+        4 => live ^ TOP_BIT,
         _ => random.next(),
     }
 }

@@ -5,6 +5,7 @@ use crate::entry::{KIND, NUMBER};
 use crate::generate::generate;
 use crate::lines::{Call, Host, Line};
 use crate::reader::{read, Reading, Verdict};
+use crate::state::TOP_BIT;
 use crate::Blocks;
 
 /// A block list and entries.
@@ -40,13 +41,13 @@ impl Saved {
     }
 
     /// Puts an entry at a place, counted from 0. The numbers after it move
-    /// up, and with them the handles that are such numbers.
+    /// up, and with them the handles that have such numbers.
     pub fn insert(&mut self, place: usize, entry: [u64; 2]) {
-        let number = place as u64 + 1;
+        let handle = TOP_BIT | (place as u64 + 1);
         for moved in &mut self.entries[place..] {
             moved[0] += NUMBER.word(1);
             let has_handle = [5, 9].contains(&kind_of(moved));
-            if has_handle && (number..u64::MAX).contains(&moved[1]) {
+            if has_handle && (handle..u64::MAX).contains(&moved[1]) {
                 moved[1] += 1;
             }
         }

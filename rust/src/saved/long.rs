@@ -3,7 +3,7 @@
 
 use crate::block::PAGE;
 use crate::reader::{ENTRY, WORD};
-use crate::state::{JOURNAL_WORDS, LAST_NUMBER, OUTPUT_BYTES, SLOTS};
+use crate::state::{JOURNAL_WORDS, LAST_NUMBER, OUTPUT_BYTES, SLOTS, TOP_BIT};
 use crate::{build, close, drain, memory, offer, receive, setup, wire, withdraw, work};
 use crate::{permit, take};
 use crate::{Pair, State};
@@ -27,6 +27,10 @@ const BLOCKS: [u64; 15] = [
     1,
     1,
 ];
+
+/// One id, version 1.0.
+const ID: &[u8] = b"sp\0";
+const IDS: [u64; 7] = [1, 0, 3, 0x7370 << 48, 0, 0, 0];
 
 const fn pair(block: usize) -> Pair {
     Pair {
@@ -53,7 +57,7 @@ pub fn write_long(entries: u64, mut file: impl Write) -> io::Result<()> {
         file.write_all(&word.to_be_bytes())?;
     }
     let mut agent = Agent {
-        state: setup(&BLOCKS, &[]).expect("a good block list"),
+        state: setup(&BLOCKS, &[], &IDS).expect("good lists"),
         journal: [0; JOURNAL_WORDS],
         out: [0; OUTPUT_BYTES],
         entries,
@@ -100,7 +104,7 @@ impl<W: Write> Agent<W> {
     /// Offers a service; gives its handle.
     fn offer(&mut self, channel: u64, service: u64) -> io::Result<u64> {
         call!(self, offer, channel, service);
-        Ok(self.state.last)
+        Ok(TOP_BIT | self.state.last)
     }
 
     fn receive(&mut self, channel: u64, message: &[u8]) -> io::Result<()> {
@@ -115,14 +119,17 @@ impl<W: Write> Agent<W> {
     }
 
     /// Everything that a channel can see, from its INIT_REQ to its end: an
-    /// entry of each kind of 01 that is written still, and of those of orders,
-    /// most of them answers to QUERY.
+    /// entry of each kind of 01 that is written still, and of those of orders
+    /// and of the peer, most of them answers to QUERY.
     fn round(&mut self, channel: u64) -> io::Result<()> {
         self.receive(channel, &build::init_req(1, 0))?;
         let panic = self.register(channel, 3)?;
         call!(self, permit, 3, true);
         self.receive(channel, &build::data(panic, &build::panic(1)))?;
         call!(self, take);
+        self.receive(channel, &build::reg_req(7, 1, 0, ID))?;
+        self.receive(channel, &build::data(7, b"hello"))?;
+        self.receive(channel, &build::of_handle(wire::UNREG, 7))?;
         let refused = self.offer(channel, 1)?;
         self.receive(channel, &build::reg_nack(refused, 1, 0))?;
         self.receive(channel, &build::data(refused, b"late"))?;

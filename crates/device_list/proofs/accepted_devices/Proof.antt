@@ -4,7 +4,6 @@ use mathlib.Core.Path.{sym, _∙_}
 use native.Mathlib.Omega.{arith}
 use Rattle.model.proofs.Loops.{refute}
 use Rattle.device_list.proofs.Names.{accepted-rules, accepted-last}
-use borrow.Author.Needs.{needs}
 use Rattle.device_list.proofs.accepted_devices.Statement.{statement}
 use Rattle.device_list.proofs.accepted_devices.Tie as tie
 
@@ -15,7 +14,7 @@ returns-2 : tie.Need-returns-2
 returns-2 c = refute _ (λ t. let r = accepted-rules _ t in omega arith)
 
 keep-rules-requires : tie.Need-keep-rules-requires
-keep-rules-requires c κs = search needs
+keep-rules-requires c κs = (omega arith, omega arith)
 
 returns-3 : tie.Need-returns-3
 returns-3 c = c .keep-rules .ensures ∙ sym (accepted-last _ (omega arith))

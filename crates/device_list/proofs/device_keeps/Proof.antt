@@ -3,9 +3,8 @@
 use mathlib.Core.Path.{sym, _∙_}
 use Rattle.model.specs.Layout.{deviceIn}
 use Rattle.model.proofs.Loops.{refute}
-use Rattle.device_list.proofs.Names.{device-rules, device-last}
+use Rattle.device_list.proofs.Names.{name-held, device-rules, device-last}
 use native.Mathlib.Omega.{arith}
-use borrow.Author.Needs.{needs}
 use Rattle.device_list.proofs.device_keeps.Statement.{statement}
 use Rattle.device_list.proofs.device_keeps.Tie as tie
 
@@ -41,12 +40,25 @@ returns-2 : tie.Need-returns-2
 unfolding deviceIn
 returns-2 c = refute _ (λ t. let r = device-rules _ _ _ t in omega arith)
 
-name-keeps-requires : tie.Need-name-keeps-requires
-name-keeps-requires c κs = search needs
+add-holds-name : tie.Need-add-holds-name
+add-holds-name c = omega arith
+
+add-holds-name-2 : tie.Need-add-holds-name-2
+add-holds-name-2 c = omega arith
+
+mul-holds-name : tie.Need-mul-holds-name
+mul-holds-name c = omega arith
+
+shared-slice-read-holds-name : tie.Need-shared-slice-read-holds-name
+shared-slice-read-holds-name c = omega arith
+
+holds-name-requires : tie.Need-holds-name-requires
+holds-name-requires c κs = omega arith
 
 returns-3 : tie.Need-returns-3
 unfolding deviceIn
-returns-3 c = c .name-keeps .ensures ∙ sym (device-last _ _ _ (omega arith) (omega arith))
+returns-3 c =
+    c .holds-name .ensures ∙ name-held _ _ _ ∙ sym (device-last _ _ _ (omega arith) (omega arith))
 
 pub device-keeps-spec : {M : Type 1} → statement M
 device-keeps-spec =
@@ -62,5 +74,9 @@ device-keeps-spec =
     mul-if2
     shared-slice-read-if2
     returns-2
-    name-keeps-requires
+    add-holds-name
+    add-holds-name-2
+    mul-holds-name
+    shared-slice-read-holds-name
+    holds-name-requires
     returns-3)

@@ -9,7 +9,7 @@ use lib.ListN.{getD}
 use lib.Dec.{eqb}
 use Rattle.model.specs.Choice.{every}
 use Rattle.model.specs.Layout.{deviceIn, deviceWords}
-use Rattle.device_list.proofs.Bytes.{both-pass}
+use Rattle.names.proofs.Bytes.{both-pass}
 use Rattle.device_list.proofs.id_apart.Statement.{statement}
 use Rattle.device_list.proofs.id_apart.Tie as tie
 

@@ -7,8 +7,8 @@ use lib.ListN.{getD}
 use lib.Dec.{ltb}
 use Rattle.model.specs.Choice.{every}
 use Rattle.model.specs.Layout.{deviceWords}
-use Rattle.device_list.specs.NameWords.{idsRise}
-use Rattle.device_list.proofs.Bytes.{both-pass}
+use Rattle.device_list.specs.Rising.{idsRise}
+use Rattle.names.proofs.Bytes.{both-pass}
 use Rattle.device_list.proofs.Rising.{every-next}
 use Rattle.device_list.proofs.ids_rise.Statement.{statement}
 use Rattle.device_list.proofs.ids_rise.Tie as tie

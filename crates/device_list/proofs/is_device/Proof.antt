@@ -1,8 +1,9 @@
--- `device_list::is_device` meets its contract: an id or a length that differs decides, and past them the words.
+-- `device_list::is_device` meets its contract: an id that differs decides, and past it the name.
 -- Assumes nothing.
-use mathlib.Core.Path.{sym, _∙_}
-use Rattle.model.specs.Layout.{deviceIn}
-use Rattle.device_list.proofs.Names.{NameRules, name-rules, id-differs, length-differs, device-words}
+use mathlib.Core.Path.{_∙_}
+use Rattle.model.specs.Layout.{deviceIn, mostNameBytes, nameBytesIn}
+use Rattle.names.proofs.Names.{NameRules}
+use Rattle.device_list.proofs.Names.{nameFrom, rules-held, id-differs, device-named}
 use native.Mathlib.Omega.{arith}
 use Rattle.device_list.proofs.is_device.Statement.{statement}
 use Rattle.device_list.proofs.is_device.Tie as tie
@@ -34,37 +35,27 @@ mul-n c = omega arith
 shared-slice-read-n : tie.Need-shared-slice-read-n
 shared-slice-read-n c = omega arith
 
-returns-2 : tie.Need-returns-2
-returns-2 c = length-differs _ _ _ _ _ (c .if2 .taken)
+add-has-name : tie.Need-add-has-name
+add-has-name c = omega arith
 
 -- its name keeps the rules
-abbrev start : tie.Else2 → tie.Start
-start c = c .before .before .before .before .before .before
+abbrev start : tie.Else1 → tie.Start
+start c = c .before .before .before .before
 
-rules : (c : tie.Else2) → let s = start c .args in NameRules (s .words .now) (s .at) (s .i)
-rules c = name-rules _ _ _ (start c .pre .1)
+rules : (c : tie.Else1) → let s = start c .args in NameRules (s .words .now) (nameFrom (s .at) (s .i)) (nameBytesIn (s .words .now) (s .at) (s .i)) mostNameBytes
+rules c = rules-held _ _ _ (start c .pre .1)
 
-sub-count : tie.Need-sub-count
-sub-count c = omega (arith, rules c .some)
+has-name-requires : tie.Need-has-name-requires
+has-name-requires c κs =
+    let r = rules (c .before) in
+    let few = r .few in
+    (r .some, omega arith, r .padding)
 
-add-count : tie.Need-add-count
-add-count c = omega arith
-
-add-has-bytes : tie.Need-add-has-bytes
-add-has-bytes c = omega arith
-
-has-bytes-requires : tie.Need-has-bytes-requires
-has-bytes-requires c κs =
-    let few = rules c .few in
-    let some = rules c .some in
-    (omega arith, omega arith)
-
-returns-3 : tie.Need-returns-3
+returns-2 : tie.Need-returns-2
 unfolding deviceIn
-returns-3 c =
-    let e = c .before in
-    c .has-bytes .ensures
-    ∙ device-words _ (start e .args .at) (start e .args .i) _ (rules e) (sym (e .if2 .left)) _ (e .before .before .if1 .left)
+returns-2 c =
+    let e = c .before .before in
+    c .has-name .ensures ∙ device-named _ (start e .args .at) (start e .args .i) _ _ (e .if1 .left)
 
 pub is-device-spec : {M : Type 1} → statement M
 is-device-spec =
@@ -78,9 +69,6 @@ is-device-spec =
     add-n
     mul-n
     shared-slice-read-n
-    returns-2
-    sub-count
-    add-count
-    add-has-bytes
-    has-bytes-requires
-    returns-3)
+    add-has-name
+    has-name-requires
+    returns-2)

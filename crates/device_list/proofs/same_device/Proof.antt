@@ -1,8 +1,10 @@
--- `device_list::same_device` meets its contract: ids or lengths that differ decide, and past them the words.
+-- `device_list::same_device` meets its contract: ids that differ decide, and past them the names.
 -- Assumes nothing.
 use mathlib.Core.Path.{_∙_}
-use Rattle.model.specs.Layout.{deviceIn}
-use Rattle.device_list.proofs.Names.{NameRules, name-rules, name-long, id-differs, length-differs, pair-words}
+use Prim.Native.Nat.{ℕ}
+use Rattle.model.specs.Layout.{deviceIn, mostNameBytes, nameBytesIn}
+use Rattle.names.proofs.Names.{NameRules}
+use Rattle.device_list.proofs.Names.{nameFrom, rules-held, id-differs, pair-named}
 use native.Mathlib.Omega.{arith}
 use Rattle.device_list.proofs.same_device.Statement.{statement}
 use Rattle.device_list.proofs.same_device.Tie as tie
@@ -46,49 +48,45 @@ mul-n c = omega arith
 shared-slice-read-n : tie.Need-shared-slice-read-n
 shared-slice-read-n c = omega arith
 
-add-if2 : tie.Need-add-if2
-add-if2 c = omega arith
+add-m : tie.Need-add-m
+add-m c = omega arith
 
-mul-if2 : tie.Need-mul-if2
-mul-if2 c = omega arith
+mul-m : tie.Need-mul-m
+mul-m c = omega arith
 
-shared-slice-read-if2 : tie.Need-shared-slice-read-if2
-shared-slice-read-if2 c = omega arith
+shared-slice-read-m : tie.Need-shared-slice-read-m
+shared-slice-read-m c = omega arith
 
-returns-2 : tie.Need-returns-2
-returns-2 c = length-differs _ _ _ _ _ (λ e. c .if2 .taken (e ∙ name-long _ _ _))
+add-same-names : tie.Need-add-same-names
+add-same-names c = omega arith
+
+add-same-names-2 : tie.Need-add-same-names-2
+add-same-names-2 c = omega arith
 
 -- the names of both keep the rules
-abbrev start : tie.Else2 → tie.Start
-start c = c .before .before .before .before .before .before .before
+abbrev start : tie.Else1 → tie.Start
+start c = c .before .before .before .before
 
-rules : (c : tie.Else2) → let s = start c .args in NameRules (s .words .now) (s .at) (s .i) × NameRules (s .words .now) (s .at) (s .j)
-rules c = let p = start c .pre in (name-rules _ _ _ (p .2), name-rules _ _ _ (p .3))
+abbrev Held : tie.Start → ℕ → Type 0
+Held s i = NameRules (s .args .words .now) (nameFrom (s .args .at) i) (nameBytesIn (s .args .words .now) (s .args .at) i) mostNameBytes
 
-sub-count : tie.Need-sub-count
-sub-count c = omega (arith, rules c .1 .some)
+rules : (c : tie.Else1) → Held (start c) (start c .args .j) × Held (start c) (start c .args .i)
+rules c = let p = start c .pre in (rules-held _ _ _ (p .3), rules-held _ _ _ (p .2))
 
-add-count : tie.Need-add-count
-add-count c = omega (arith, rules c .1 .few)
+same-names-requires : tie.Need-same-names-requires
+same-names-requires c κs =
+    let e = c .before .before in
+    let p = start e .pre in
+    let few = rules e .0 .few in
+    let few-too = rules e .1 .few in
+    (rules e .0 .some, omega arith, omega arith, rules e .0 .padding, rules e .1 .padding)
 
-add-same-words : tie.Need-add-same-words
-add-same-words c = omega (arith, start c .pre)
-
-add-same-words-2 : tie.Need-add-same-words-2
-add-same-words-2 c = omega (arith, start c .pre)
-
-same-words-requires : tie.Need-same-words-requires
-same-words-requires c κs =
-    let few = rules c .1 .few in
-    let p = start c .pre in
-    (omega arith, omega arith)
-
-returns-3 : tie.Need-returns-3
+returns-2 : tie.Need-returns-2
 unfolding deviceIn
-returns-3 c =
-    let r = rules (c .before) in
-    c .same-words .ensures
-    ∙ pair-words _ (start (c .before) .args .at) (start (c .before) .args .i) (start (c .before) .args .j) (r .0) (r .1) (c .before .before .before .before .if1 .left) (c .before .if2 .left)
+returns-2 c =
+    let e = c .before .before .before in
+    c .same-names .ensures
+    ∙ pair-named _ (start e .args .at) (start e .args .i) (start e .args .j) (e .if1 .left)
 
 pub same-device-spec : {M : Type 1} → statement M
 same-device-spec =
@@ -106,13 +104,10 @@ same-device-spec =
     add-n
     mul-n
     shared-slice-read-n
-    add-if2
-    mul-if2
-    shared-slice-read-if2
-    returns-2
-    sub-count
-    add-count
-    add-same-words
-    add-same-words-2
-    same-words-requires
-    returns-3)
+    add-m
+    mul-m
+    shared-slice-read-m
+    add-same-names
+    add-same-names-2
+    same-names-requires
+    returns-2)

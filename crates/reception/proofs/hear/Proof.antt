@@ -1,6 +1,7 @@
+use native.Mathlib.Omega.{arith}
 use mathlib.Core.Path.{_∙_, sym}
 use Rattle.model.specs.Calls.{heard}
-use Rattle.messages.proofs.Rules.{data-there}
+use Rattle.messages.proofs.Rules.{data-there, reg-there}
 use Rattle.model.proofs.Handlers.{silent-handles}
 use borrow.Author.Needs.{needs}
 use Rattle.reception.proofs.hear.Statement.{statement}
@@ -12,59 +13,61 @@ enum-known-decoded c = search needs
 initiate-requires : tie.Need-initiate-requires
 initiate-requires c κs = search needs
 
+enum-told : tie.Need-enum-told
+enum-told c = search needs
+
+register-peer-requires : tie.Need-register-peer-requires
+register-peer-requires c κs =
+    let s = c .before .before .before .before .before .before in
+    (s .pre .0, omega arith, reg-there _ _ (sym (s .pre .3) ∙ c .before .before .enum-told .given .1), s .pre .2)
+
 enum-known-decoded-2 : tie.Need-enum-known-decoded-2
 enum-known-decoded-2 c = search needs
-
-refuse-registration-requires : tie.Need-refuse-registration-requires
-refuse-registration-requires c κs = search needs
-
-enum-known-decoded-3 : tie.Need-enum-known-decoded-3
-enum-known-decoded-3 c = search needs
 
 acknowledge-requires : tie.Need-acknowledge-requires
 acknowledge-requires c κs = search needs
 
-enum-known-decoded-4 : tie.Need-enum-known-decoded-4
-enum-known-decoded-4 c = search needs
+enum-known-decoded-3 : tie.Need-enum-known-decoded-3
+enum-known-decoded-3 c = search needs
 
 not-acknowledge-requires : tie.Need-not-acknowledge-requires
 not-acknowledge-requires c κs = search needs
 
-enum-known-decoded-5 : tie.Need-enum-known-decoded-5
-enum-known-decoded-5 c = search needs
+enum-known-decoded-4 : tie.Need-enum-known-decoded-4
+enum-known-decoded-4 c = search needs
 
 unregister-requires : tie.Need-unregister-requires
 unregister-requires c κs = search needs
 
-enum-told : tie.Need-enum-told
-enum-told c = search needs
+enum-told-2 : tie.Need-enum-told-2
+enum-told-2 c = search needs
 
 only-noted-requires : tie.Need-only-noted-requires
 only-noted-requires c κs = search needs
 
-enum-told-2 : tie.Need-enum-told-2
-enum-told-2 c = search needs
+enum-told-3 : tie.Need-enum-told-3
+enum-told-3 c = search needs
 
 only-noted-requires-2 : tie.Need-only-noted-requires-2
 only-noted-requires-2 c κs = search needs
 
-enum-known-decoded-6 : tie.Need-enum-known-decoded-6
-enum-known-decoded-6 c = search needs
+enum-known-decoded-5 : tie.Need-enum-known-decoded-5
+enum-known-decoded-5 c = search needs
 
 payload-requires : tie.Need-payload-requires
-payload-requires c κs = data-there _ _ (sym (c .before .before .before .before .before .before .pre .3) ∙ c .before .before .decoded6 .given .1)
+payload-requires c κs = data-there _ _ (sym (c .before .before .before .before .before .before .pre .3) ∙ c .before .before .decoded5 .given .1)
 
 take-data-requires : tie.Need-take-data-requires
 take-data-requires c κs = search needs
 
-enum-told-3 : tie.Need-enum-told-3
-enum-told-3 c = search needs
+enum-told-4 : tie.Need-enum-told-4
+enum-told-4 c = search needs
 
 only-noted-requires-3 : tie.Need-only-noted-requires-3
 only-noted-requires-3 c κs = search needs
 
-enum-told-4 : tie.Need-enum-told-4
-enum-told-4 c = search needs
+enum-told-5 : tie.Need-enum-told-5
+enum-told-5 c = search needs
 
 close-requires : tie.Need-close-requires
 close-requires c κs = search needs
@@ -81,45 +84,45 @@ same-length-2 c = search needs
 
 returns-2 : tie.Need-returns-2
 unfolding heard
-returns-2 c = rw (c .before .before .before .before .before .before .decoded2 .given .1) (c .before .before .refuse-registration .ensures)
+returns-2 c = rw (c .before .before .before .before .before .enum-told .given .1) (c .before .before .register-peer .ensures)
 
 returns-3 : tie.Need-returns-3
 unfolding heard
-returns-3 c = rw (c .before .before .before .decoded3 .given .1) (silent-handles _ (c .acknowledge .ensures))
+returns-3 c = rw (c .before .before .before .decoded2 .given .1) (silent-handles _ (c .acknowledge .ensures))
 
 returns-4 : tie.Need-returns-4
 unfolding heard
-returns-4 c = rw (c .before .before .before .decoded4 .given .1) (silent-handles _ (c .not-acknowledge .ensures))
+returns-4 c = rw (c .before .before .before .decoded3 .given .1) (silent-handles _ (c .not-acknowledge .ensures))
 
 same-length-3 : tie.Need-same-length-3
 same-length-3 c = search needs
 
 returns-5 : tie.Need-returns-5
 unfolding heard
-returns-5 c = rw (c .before .before .before .before .before .before .decoded5 .given .1) (c .before .before .unregister .ensures)
+returns-5 c = rw (c .before .before .before .before .before .before .decoded4 .given .1) (c .before .before .unregister .ensures)
 
 returns-6 : tie.Need-returns-6
 unfolding heard
-returns-6 c = rw (c .before .before .enum-told .given .1) (silent-handles _ (c .only-noted .ensures))
+returns-6 c = rw (c .before .before .enum-told2 .given .1) (silent-handles _ (c .only-noted .ensures))
 
 returns-7 : tie.Need-returns-7
 unfolding heard
-returns-7 c = rw (c .before .before .enum-told2 .given .1) (silent-handles _ (c .only-noted2 .ensures))
+returns-7 c = rw (c .before .before .enum-told3 .given .1) (silent-handles _ (c .only-noted2 .ensures))
 
 same-length-4 : tie.Need-same-length-4
 same-length-4 c = search needs
 
 returns-8 : tie.Need-returns-8
 unfolding heard
-returns-8 c = rw (c .before .before .before .before .before .before .before .decoded6 .given .1, ← c .before .before .before .before .payload .ensures) (c .before .before .take-data .ensures)
+returns-8 c = rw (c .before .before .before .before .before .before .before .decoded5 .given .1, ← c .before .before .before .before .payload .ensures) (c .before .before .take-data .ensures)
 
 returns-9 : tie.Need-returns-9
 unfolding heard
-returns-9 c = rw (c .before .before .enum-told3 .given .1) (silent-handles _ (c .only-noted3 .ensures))
+returns-9 c = rw (c .before .before .enum-told4 .given .1) (silent-handles _ (c .only-noted3 .ensures))
 
 returns-10 : tie.Need-returns-10
 unfolding heard
-returns-10 c = rw (c .before .before .enum-told4 .given .1) (silent-handles _ (c .close .ensures))
+returns-10 c = rw (c .before .before .enum-told5 .given .1) (silent-handles _ (c .close .ensures))
 
 pub hear-spec : {M : Type 1} → statement M
 hear-spec =
@@ -127,24 +130,24 @@ hear-spec =
     (tie.spec
     enum-known-decoded
     initiate-requires
-    enum-known-decoded-2
-    refuse-registration-requires
-    enum-known-decoded-3
-    acknowledge-requires
-    enum-known-decoded-4
-    not-acknowledge-requires
-    enum-known-decoded-5
-    unregister-requires
     enum-told
-    only-noted-requires
+    register-peer-requires
+    enum-known-decoded-2
+    acknowledge-requires
+    enum-known-decoded-3
+    not-acknowledge-requires
+    enum-known-decoded-4
+    unregister-requires
     enum-told-2
+    only-noted-requires
+    enum-told-3
     only-noted-requires-2
-    enum-known-decoded-6
+    enum-known-decoded-5
     payload-requires
     take-data-requires
-    enum-told-3
-    only-noted-requires-3
     enum-told-4
+    only-noted-requires-3
+    enum-told-5
     close-requires
     same-length
     returns

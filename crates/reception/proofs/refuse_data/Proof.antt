@@ -1,5 +1,5 @@
 use mathlib.Core.Path.{refl}
-use Rattle.model.specs.Calls.{dataFor}
+use Rattle.model.specs.Calls.{peerData}
 use borrow.Author.Needs.{needs}
 use Rattle.reception.proofs.refuse_data.Statement.{statement}
 use Rattle.reception.proofs.refuse_data.Tie as tie
@@ -14,7 +14,7 @@ same-length : tie.Need-same-length
 same-length c = search needs
 
 returns : tie.Need-returns
-unfolding dataFor
+unfolding peerData
 returns c = let w = c .before .before .before .put-nack .ensures in record { length′ = w .size; notes = c .data-refused .ensures; state = refl; output = w .output }
 
 pub refuse-data-spec : {M : Type 1} → statement M

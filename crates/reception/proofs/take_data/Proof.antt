@@ -1,3 +1,4 @@
+use Rattle.model.specs.Calls.{dataFor}
 use borrow.Author.Needs.{needs}
 use Rattle.reception.proofs.take_data.Statement.{statement}
 use Rattle.reception.proofs.take_data.Tie as tie
@@ -14,8 +15,8 @@ deliver-requires c κs = search needs
 enum-told : tie.Need-enum-told
 enum-told c = search needs
 
-refuse-data-requires : tie.Need-refuse-data-requires
-refuse-data-requires c κs = search needs
+take-peer-data-requires : tie.Need-take-peer-data-requires
+take-peer-data-requires c κs = search needs
 
 same-length : tie.Need-same-length
 same-length c = search needs
@@ -27,7 +28,8 @@ same-length-2 : tie.Need-same-length-2
 same-length-2 c = search needs
 
 returns-2 : tie.Need-returns-2
-returns-2 c = let f = c .before .before .before .before .before in rw (← f .before .before .find-staged .ensures, f .enum-told .given .1) (c .before .before .refuse-data .ensures)
+unfolding dataFor
+returns-2 c = let f = c .before .before .before .before .before in rw (← f .before .before .find-staged .ensures, f .enum-told .given .1) (c .before .before .take-peer-data .ensures)
 
 pub take-data-spec : {M : Type 1} → statement M
 take-data-spec =
@@ -37,7 +39,7 @@ take-data-spec =
     enum-known-found
     deliver-requires
     enum-told
-    refuse-data-requires
+    take-peer-data-requires
     same-length
     returns
     same-length-2

@@ -32,12 +32,12 @@ pub fn bad(line: &[u8]) -> Option<String> {
     Some(format!("device line bad {why}"))
 }
 
-fn is_hexadecimal(digits: &[u8]) -> bool {
+pub fn is_hexadecimal(digits: &[u8]) -> bool {
     !digits.is_empty() && digits.iter().all(u8::is_ascii_hexdigit)
 }
 
 /// Whether a field is the form of a number, but above the greatest.
-fn is_high(field: &[u8]) -> bool {
+pub fn is_high(field: &[u8]) -> bool {
     match field.strip_prefix(b"0x") {
         Some(digits) => is_hexadecimal(digits),
         None => !field.is_empty() && field.iter().all(u8::is_ascii_digit),

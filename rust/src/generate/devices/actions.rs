@@ -4,21 +4,30 @@ use super::{bad_line, damaged, one, request};
 use crate::build;
 use crate::generate::random::Random;
 use crate::generate::Generator;
-use crate::lines::{Call, DeviceLine};
+use crate::lines::{Call, DeviceLine, PeerLine};
 use crate::state::State;
 
 impl Generator {
-    /// A setup with these devices. Those of lines among the calls are mostly
-    /// taken by a setup before it.
-    pub(in crate::generate) fn set_up(&mut self, blocks: Vec<u64>, devices: Vec<DeviceLine>) {
-        if !self.host.devices.is_empty() && !self.random.once_in(4) {
+    /// A setup with these devices and ids. Those of lines among the calls are
+    /// mostly taken by a setup before it.
+    pub(in crate::generate) fn set_up(
+        &mut self,
+        blocks: Vec<u64>,
+        devices: Vec<DeviceLine>,
+        ids: Vec<PeerLine>,
+    ) {
+        let waiting = !self.host.devices.is_empty() || !self.host.ids.is_empty();
+        if waiting && !self.random.once_in(4) {
             self.call(Call::Setup(Vec::new()));
         }
         for device in devices {
             self.call(Call::Device(device));
         }
+        for id in ids {
+            self.call(Call::Peer(id));
+        }
         if self.random.once_in(30) {
-            // A bad line leaves the devices for the setup that follows.
+            // A bad line leaves the devices and ids for the setup that follows.
             let line = self.random.pick(&["setup ", "setup x", "setup 0 1  0 0 0"]);
             self.raw(line.as_bytes());
         }

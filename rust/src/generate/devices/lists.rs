@@ -63,7 +63,7 @@ pub fn good(random: &mut Random) -> Vec<DeviceLine> {
 
 /// A list that breaks a single rule, or has more devices than lines may give.
 pub fn bad(random: &mut Random) -> Vec<DeviceLine> {
-    match random.weighted(&[12, 3, 85]) {
+    match random.weighted(&[12, 6, 82]) {
         0 => {
             let count = random.pick(&[33, 33, 33, 34, 64]);
             devices(random, count)

@@ -1,14 +1,13 @@
 use Prim.Native.Nat.{_≤_, _-_}
-use Rattle.model.specs.Layout.{nameWords}
 use borrow.Author.Needs.{needs}
 use Rattle.calls.proofs.given.put_name.Statement.{statement}
 use Rattle.calls.proofs.given.put_name.Tie as tie
 
 abbrev Inv-loop : tie.InvT-loop
-Inv-loop given₀ at name j₀ given j = j ≤ nameWords
+Inv-loop given₀ at n name j₀ given j = j ≤ n
 
 abbrev μ-loop : tie.MeasureT-loop
-μ-loop given₀ at name j₀ given j = nameWords - j
+μ-loop given₀ at n name j₀ given j = n - j
 
 loop-holds : tie.Need-loop-holds Inv-loop μ-loop
 loop-holds c = search needs

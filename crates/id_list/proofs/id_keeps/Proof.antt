@@ -1,0 +1,77 @@
+-- `id_list::id_keeps` meets its contract: a version above 16 bits breaks the rules, and past them the bytes decide.
+-- Assumes nothing.
+use mathlib.Core.Path.{_∙_}
+use Rattle.model.specs.Layout.{idIn}
+use Rattle.model.proofs.Loops.{refute}
+use Rattle.id_list.proofs.Ids.{id-rules, id-last}
+use native.Mathlib.Omega.{arith}
+use Rattle.id_list.proofs.id_keeps.Statement.{statement}
+use Rattle.id_list.proofs.id_keeps.Tie as tie
+
+mul-d : tie.Need-mul-d
+mul-d c = omega arith
+
+add-d : tie.Need-add-d
+add-d c = omega arith
+
+mul-if1 : tie.Need-mul-if1
+mul-if1 c = omega arith
+
+shared-slice-read-if1 : tie.Need-shared-slice-read-if1
+shared-slice-read-if1 c = omega arith
+
+returns : tie.Need-returns
+unfolding idIn
+returns c = refute _ (λ t. let r = id-rules _ _ _ t in omega arith)
+
+add-if2 : tie.Need-add-if2
+add-if2 c = omega arith
+
+mul-if2 : tie.Need-mul-if2
+mul-if2 c = omega arith
+
+shared-slice-read-if2 : tie.Need-shared-slice-read-if2
+shared-slice-read-if2 c = omega arith
+
+returns-2 : tie.Need-returns-2
+unfolding idIn
+returns-2 c = refute _ (λ t. let r = id-rules _ _ _ t in omega arith)
+
+add-n : tie.Need-add-n
+add-n c = omega arith
+
+mul-n : tie.Need-mul-n
+mul-n c = omega arith
+
+shared-slice-read-n : tie.Need-shared-slice-read-n
+shared-slice-read-n c = omega arith
+
+add-holds-name : tie.Need-add-holds-name
+add-holds-name c = omega arith
+
+holds-name-requires : tie.Need-holds-name-requires
+holds-name-requires c κs = omega arith
+
+returns-3 : tie.Need-returns-3
+unfolding idIn
+returns-3 c = c .holds-name .ensures ∙ id-last _ _ _ (omega arith) (omega arith)
+
+pub id-keeps-spec : {M : Type 1} → statement M
+id-keeps-spec =
+    tie.close
+    (tie.spec
+    mul-d
+    add-d
+    mul-if1
+    shared-slice-read-if1
+    returns
+    add-if2
+    mul-if2
+    shared-slice-read-if2
+    returns-2
+    add-n
+    mul-n
+    shared-slice-read-n
+    add-holds-name
+    holds-name-requires
+    returns-3)

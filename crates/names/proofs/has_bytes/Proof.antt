@@ -1,0 +1,83 @@
+-- `names::has_bytes` meets its contract: the words passed have the bytes, and one that differs has not.
+-- Assumes nothing.
+use mathlib.Core.Bool.{true}
+use mathlib.Core.Path.{_≡_, sym, _∙_}
+use Prim.Native.Nat.{_+_, _*_, _≤_, _-_}
+use lib.ListN.{getD}
+use Rattle.wire.specs.BigEndian.{numberAt}
+use Rattle.wire.proofs.Laws.{number-bound}
+use Rattle.model.specs.Choice.{every}
+use Rattle.model.specs.Layout.{wordBytes}
+use Rattle.model.proofs.Loops.{every-none, every-more, every-fails, every-all}
+use Rattle.names.specs.NameWords.{sameBytes}
+use Rattle.names.proofs.Bytes.{words-same, words-differ}
+use native.Mathlib.Omega.{arith}
+use Rattle.names.proofs.has_bytes.Statement.{statement}
+use Rattle.names.proofs.has_bytes.Tie as tie
+
+abbrev Inv-loop : tie.InvT-loop
+Inv-loop words from n name q₀ q = (q ≤ n) × (every q (λ j. sameBytes (getD words (from + j) 0) (numberAt name (j * wordBytes) wordBytes)) ≡ true)
+
+abbrev μ-loop : tie.MeasureT-loop
+μ-loop words from n name q₀ q = n - q
+
+loop-holds : tie.Need-loop-holds Inv-loop μ-loop
+loop-holds c = (omega arith, every-none _)
+
+add-if1 : tie.Need-add-if1 Inv-loop μ-loop
+add-if1 c = omega arith
+
+mul-if1 : tie.Need-mul-if1 Inv-loop μ-loop
+mul-if1 c = omega arith
+
+shared-slice-read-if1 : tie.Need-shared-slice-read-if1 Inv-loop μ-loop
+shared-slice-read-if1 c = omega arith
+
+mul-word-at : tie.Need-mul-word-at Inv-loop μ-loop
+mul-word-at c = omega arith
+
+word-at-requires : tie.Need-word-at-requires Inv-loop μ-loop
+word-at-requires c κs = omega arith
+
+returns : tie.Need-returns Inv-loop μ-loop
+returns c =
+    let w = c .before in
+    let k = w .before .shared-slice-known3 .given in
+    let t = w .before .before in
+    let l = t .before .loop in
+    let a = t .before .before .before .before .args in
+    every-fails _ _ _ (t .loop-test .taken)
+    (words-differ _ _ (omega (arith, k (a .from + l .q))) (number-bound _ _ wordBytes) (λ e. c .if1 .taken (e ∙ sym (w .word-at .ensures))))
+
+add-q : tie.Need-add-q Inv-loop μ-loop
+add-q c = omega arith
+
+loop-less : tie.Need-loop-less Inv-loop μ-loop
+loop-less c = omega arith
+
+loop-again : tie.Need-loop-again Inv-loop μ-loop
+loop-again c =
+    let w = c .before in
+    let l = w .before .before .before .loop in
+    (omega arith, every-more _ _ (l .inv .1) (words-same _ _ (c .if1 .left ∙ w .word-at .ensures)))
+
+returns-2 : tie.Need-returns-2 Inv-loop μ-loop
+returns-2 c = let l = c .before .loop in every-all _ _ _ (l .inv .0) (c .loop-test .left) (l .inv .1)
+
+pub has-bytes-spec : {M : Type 1} → statement M
+has-bytes-spec =
+    tie.close
+    (tie.spec
+    Inv-loop
+    μ-loop
+    loop-holds
+    add-if1
+    mul-if1
+    shared-slice-read-if1
+    mul-word-at
+    word-at-requires
+    returns
+    add-q
+    loop-less
+    loop-again
+    returns-2)

@@ -1,0 +1,60 @@
+-- `names::holds_name` meets its contract: a length out of bounds breaks the rules, and past it the words decide.
+-- Assumes nothing.
+use mathlib.Core.Path.{sym, _∙_}
+use Rattle.model.proofs.Choice.{and-false}
+use Rattle.model.proofs.Loops.{refute, no, yes}
+use Rattle.names.proofs.Bytes.{and-next}
+use Rattle.names.proofs.Names.{name-rules, name-words}
+use native.Mathlib.Omega.{arith}
+use borrow.Author.Needs.{needs}
+use Rattle.names.proofs.holds_name.Statement.{statement}
+use Rattle.names.proofs.holds_name.Tie as tie
+
+returns : tie.Need-returns
+returns c = refute _ (λ t. let r = name-rules _ _ _ _ t in omega arith)
+
+returns-2 : tie.Need-returns-2
+returns-2 c = refute _ (λ t. let r = name-rules _ _ _ _ t in omega arith)
+
+whole-words-requires : tie.Need-whole-words-requires
+whole-words-requires c κs = omega arith
+
+returns-3 : tie.Need-returns-3
+returns-3 c =
+    let w = c .before in
+    sym (and-false _ _ (no _ (w .whole-words .ensures) (c .if3 .taken)))
+    ∙ name-words _ _ _ _ (w .before .before .if1 .left) (w .before .if2 .left)
+
+add-last-word-keeps : tie.Need-add-last-word-keeps
+add-last-word-keeps c = omega arith
+
+mul-last-word-keeps : tie.Need-mul-last-word-keeps
+mul-last-word-keeps c = omega arith
+
+shared-slice-read-last-word-keeps : tie.Need-shared-slice-read-last-word-keeps
+shared-slice-read-last-word-keeps c = omega arith
+
+last-word-keeps-requires : tie.Need-last-word-keeps-requires
+last-word-keeps-requires c κs = search needs
+
+returns-4 : tie.Need-returns-4
+returns-4 c =
+    let e = c .before .before in
+    let w = e .before in
+    c .last-word-keeps .ensures
+    ∙ sym (and-next _ _ (yes _ (w .whole-words .ensures) (e .if3 .left)))
+    ∙ name-words _ _ _ _ (w .before .before .if1 .left) (w .before .if2 .left)
+
+pub holds-name-spec : {M : Type 1} → statement M
+holds-name-spec =
+    tie.close
+    (tie.spec
+    returns
+    returns-2
+    whole-words-requires
+    returns-3
+    add-last-word-keeps
+    mul-last-word-keeps
+    shared-slice-read-last-word-keeps
+    last-word-keeps-requires
+    returns-4)

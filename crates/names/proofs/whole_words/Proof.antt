@@ -1,0 +1,68 @@
+-- `names::whole_words` meets its contract: no bit is set for the words passed exactly where none of their bytes is 0.
+-- Assumes nothing.
+use mathlib.Core.Path.{_≡_, refl, _∙_}
+use Prim.Native.Nat.{_+_, _≤_, _-_}
+use native.Mathlib.Numerals.{add-one}
+use native.Mathlib.Omega.{arith}
+use lib.ListN.{getD}
+use lib.Dec.{eqb}
+use Rattle.model.specs.Choice.{every}
+use Rattle.names.specs.NameWords.{wholeWord}
+use Rattle.names.proofs.Zeros.{or-none}
+use Rattle.names.proofs.whole_words.Statement.{statement}
+use Rattle.names.proofs.whole_words.Tie as tie
+
+abbrev Inv-loop : tie.InvT-loop
+Inv-loop words from n zeros₀ q₀ zeros q = (q ≤ n) × (eqb zeros 0 ≡ every q (λ j. wholeWord (getD words (from + j) 0)))
+
+abbrev μ-loop : tie.MeasureT-loop
+μ-loop words from n zeros₀ q₀ zeros q = n - q
+
+loop-holds : tie.Need-loop-holds Inv-loop μ-loop
+unfolding every
+loop-holds c = (omega arith, refl)
+
+add-zero-bytes : tie.Need-add-zero-bytes Inv-loop μ-loop
+add-zero-bytes c = omega arith
+
+mul-zero-bytes : tie.Need-mul-zero-bytes Inv-loop μ-loop
+mul-zero-bytes c = omega arith
+
+shared-slice-read-zero-bytes : tie.Need-shared-slice-read-zero-bytes Inv-loop μ-loop
+shared-slice-read-zero-bytes c = omega arith
+
+zero-bytes-requires : tie.Need-zero-bytes-requires Inv-loop μ-loop
+zero-bytes-requires c κs = tt
+
+add-q : tie.Need-add-q Inv-loop μ-loop
+add-q c = omega arith
+
+loop-less : tie.Need-loop-less Inv-loop μ-loop
+loop-less c = omega arith
+
+loop-again : tie.Need-loop-again Inv-loop μ-loop
+unfolding every
+loop-again c =
+    let l = c .before .before .before .loop in
+    (omega arith, or-none (l .zeros) (c .zero-bytes .result) ∙ rw (l .inv .1, c .zero-bytes .ensures, add-one))
+
+returns : tie.Need-returns Inv-loop μ-loop
+returns c =
+    let past : c .before .loop .q ≡ c .before .before .before .args .n = omega (arith, c .before .loop .inv .0, c .loop-test .left) in
+    c .before .loop .inv .1 ∙ rw past
+
+pub whole-words-spec : {M : Type 1} → statement M
+whole-words-spec =
+    tie.close
+    (tie.spec
+    Inv-loop
+    μ-loop
+    loop-holds
+    add-zero-bytes
+    mul-zero-bytes
+    shared-slice-read-zero-bytes
+    zero-bytes-requires
+    add-q
+    loop-less
+    loop-again
+    returns)

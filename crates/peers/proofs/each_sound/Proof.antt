@@ -1,0 +1,61 @@
+-- `peers::each_sound` meets its contract: each id passed is sound.
+-- Assumes nothing.
+use native.Mathlib.Omega.{arith}
+use mathlib.Core.Bool.{true}
+use mathlib.Core.Path.{_≡_, sym, _∙_}
+use Prim.Native.Nat.{_≤_, _-_}
+use Rattle.model.specs.Choice.{every}
+use Rattle.model.specs.Layout.{mostIds, readyAt}
+use Rattle.model.specs.Peers.{peerSound}
+use Rattle.model.proofs.Loops.{no, yes, every-none, every-more, every-fails, every-all}
+use Rattle.peers.proofs.each_sound.Statement.{statement}
+use Rattle.peers.proofs.each_sound.Tie as tie
+
+abbrev Inv-loop : tie.InvT-loop
+Inv-loop state channel ready p₀ p = (p ≤ mostIds) × (every p (peerSound state (readyAt state channel) channel) ≡ true)
+
+abbrev μ-loop : tie.MeasureT-loop
+μ-loop state channel ready p₀ p = mostIds - p
+
+mul-ready : tie.Need-mul-ready Inv-loop μ-loop
+mul-ready c = omega arith
+
+element-copy-out-ready : tie.Need-element-copy-out-ready Inv-loop μ-loop
+element-copy-out-ready c = omega arith
+
+loop-holds : tie.Need-loop-holds Inv-loop μ-loop
+loop-holds c = (omega arith, every-none _)
+
+peer-sound-requires : tie.Need-peer-sound-requires Inv-loop μ-loop
+peer-sound-requires c κs = (omega arith, omega arith)
+
+returns : tie.Need-returns Inv-loop μ-loop
+returns c = every-fails _ _ _ (c .before .before .loop-test .taken) (no _ (c .before .peer-sound .ensures) (c .if1 .taken))
+
+add-p : tie.Need-add-p Inv-loop μ-loop
+add-p c = omega arith
+
+loop-less : tie.Need-loop-less Inv-loop μ-loop
+loop-less c = omega arith
+
+loop-again : tie.Need-loop-again Inv-loop μ-loop
+loop-again c = (omega arith, every-more _ _ (c .before .before .before .loop .inv .1) (yes _ (c .before .peer-sound .ensures) (c .if1 .left)))
+
+returns-2 : tie.Need-returns-2 Inv-loop μ-loop
+returns-2 c = every-all _ _ _ (c .before .loop .inv .0) (c .loop-test .left) (c .before .loop .inv .1)
+
+pub each-sound-spec : {M : Type 1} → statement M
+each-sound-spec =
+    tie.close
+    (tie.spec
+    Inv-loop
+    μ-loop
+    mul-ready
+    element-copy-out-ready
+    loop-holds
+    peer-sound-requires
+    returns
+    add-p
+    loop-less
+    loop-again
+    returns-2)

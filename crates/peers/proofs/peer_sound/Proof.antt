@@ -1,0 +1,94 @@
+-- `peers::peer_sound` meets its contract: each early answer breaks a rule, and past them the minor decides.
+-- Assumes nothing.
+use native.Mathlib.Omega.{arith}
+use mathlib.Core.Path.{_≡_, sym, _∙_}
+use Prim.Native.Nat.{_≤_, _-_}
+use Rattle.model.specs.Layout.{idIn, peeredAt}
+use Rattle.model.proofs.Loops.{refute}
+use Rattle.peers.proofs.Laws.{Registered, unmarked, registered, minor-left}
+use borrow.Author.Needs.{needs}
+use Rattle.peers.proofs.peer_sound.Statement.{statement}
+use Rattle.peers.proofs.peer_sound.Tie as tie
+
+mark-of-requires : tie.Need-mark-of-requires
+mark-of-requires c κs = search needs
+
+returns : tie.Need-returns
+returns c = sym (unmarked _ _ _ _ (sym (c .before .mark-of .ensures) ∙ c .if1 .taken))
+
+-- past the first test
+marked : (c : tie.Else1) → peeredAt (c .before .before .args .state .now) (c .before .before .args .channel) (c .before .before .args .p) ≡ 0 → ⊥
+marked c e = c .if1 .left (c .before .mark-of .ensures ∙ e)
+
+mark-of-requires-2 : tie.Need-mark-of-requires-2
+mark-of-requires-2 c κs = search needs
+
+returns-2 : tie.Need-returns-2
+returns-2 c = refute _ (λ t. c .if2 .taken (c .before .mark-of2 .ensures ∙ registered _ _ _ _ (marked (c .before .before)) t .marked))
+
+returns-3 : tie.Need-returns-3
+returns-3 c = refute _ (λ t. let r = registered _ _ _ _ (marked (c .before .before .before)) t in omega (arith, r .isReady))
+
+element-copy-out-if4 : tie.Need-element-copy-out-if4
+element-copy-out-if4 c = search needs
+
+returns-4 : tie.Need-returns-4
+returns-4 c = refute _ (λ t. let r = registered _ _ _ _ (marked (c .before .before .before .before .before)) t in omega (arith, r .listed))
+
+handle-of-requires : tie.Need-handle-of-requires
+handle-of-requires c κs = search needs
+
+returns-5 : tie.Need-returns-5
+returns-5 c = refute _ (λ t. let r = registered _ _ _ _ (marked (c .before .before .before .before .before .before .before)) t in omega (arith, r .handle, c .before .handle-of .ensures))
+
+-- past the tests of a registration
+all : (c : tie.Else5) → Registered (c .before .before .before .before .before .before .before .before .before .args .state .now) (c .before .before .before .before .before .before .before .before .before .args .ready) (c .before .before .before .before .before .before .before .before .before .args .channel) (c .before .before .before .before .before .before .before .before .before .args .p)
+all c = record {
+  marked = sym (c .before .before .before .before .before .before .mark-of2 .ensures) ∙ c .before .before .before .before .before .if2 .left;
+  isReady = omega arith;
+  listed = omega arith;
+  handle = omega (arith, c .before .handle-of .ensures);
+}
+
+minor-of-requires : tie.Need-minor-of-requires
+minor-of-requires c κs = search needs
+
+mul-result : tie.Need-mul-result
+mul-result c = search needs
+
+add-result : tie.Need-add-result
+add-result c = search needs
+
+add-result-2 : tie.Need-add-result-2
+add-result-2 c = search needs
+
+mul-result-2 : tie.Need-mul-result-2
+mul-result-2 c = search needs
+
+element-copy-out-result : tie.Need-element-copy-out-result
+element-copy-out-result c = search needs
+
+returns-6 : tie.Need-returns-6
+unfolding idIn
+returns-6 c = rw (c .before .minor-of .ensures) (sym (minor-left _ _ _ _ (all (c .before .before))))
+
+pub peer-sound-spec : {M : Type 1} → statement M
+peer-sound-spec =
+    tie.close
+    (tie.spec
+    mark-of-requires
+    returns
+    mark-of-requires-2
+    returns-2
+    returns-3
+    element-copy-out-if4
+    returns-4
+    handle-of-requires
+    returns-5
+    minor-of-requires
+    mul-result
+    add-result
+    add-result-2
+    mul-result-2
+    element-copy-out-result
+    returns-6)

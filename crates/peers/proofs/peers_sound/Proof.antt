@@ -1,0 +1,57 @@
+-- `peers::peers_sound` meets its contract: each early answer breaks a rule, and past them the count decides.
+-- Assumes nothing.
+use native.Mathlib.Omega.{arith}
+use mathlib.Core.Bool.{true}
+use mathlib.Core.Path.{_≡_, sym, _∙_}
+use Rattle.model.specs.Choice.{every}
+use Rattle.model.specs.Layout.{mostIds, readyAt}
+use Rattle.model.specs.Peers.{peerSound}
+use Rattle.model.proofs.Choice.{clash}
+use Rattle.model.proofs.Loops.{refute, no, yes}
+use Rattle.peers.proofs.Laws.{none-sound, each-part, apart-part, count-left, marks}
+use borrow.Author.Needs.{needs}
+use Rattle.peers.proofs.peers_sound.Statement.{statement}
+use Rattle.peers.proofs.peers_sound.Tie as tie
+
+none-marked-requires : tie.Need-none-marked-requires
+none-marked-requires c κs = search needs
+
+returns : tie.Need-returns
+returns c = sym (none-sound _ _ _ (sym (c .before .none-marked .ensures) ∙ c .if1 .taken))
+
+each-sound-requires : tie.Need-each-sound-requires
+each-sound-requires c κs = search needs
+
+returns-2 : tie.Need-returns-2
+returns-2 c = refute _ (λ t. clash _ (no _ (c .before .each-sound .ensures) (c .if2 .taken)) (each-part _ _ _ t))
+
+-- each registration is sound
+each : (c : tie.Else2) → every mostIds (peerSound (c .before .before .before .before .args .state .now) (readyAt (c .before .before .before .before .args .state .now) (c .before .before .before .before .args .channel)) (c .before .before .before .before .args .channel)) ≡ true
+each c = yes _ (c .before .each-sound .ensures) (c .if2 .left)
+
+handles-apart-requires : tie.Need-handles-apart-requires
+handles-apart-requires c κs = search needs
+
+returns-3 : tie.Need-returns-3
+returns-3 c = refute _ (λ t. clash _ (no _ (c .before .handles-apart .ensures) (c .if3 .taken)) (apart-part _ _ _ t))
+
+count-marks-requires : tie.Need-count-marks-requires
+count-marks-requires c κs = (omega arith, marks _ _ _ (each (c .before .before)))
+
+returns-4 : tie.Need-returns-4
+returns-4 c =
+    rw (c .count-marks .ensures)
+    (sym (count-left _ _ _ (each (c .before .before .before)) (yes _ (c .before .before .handles-apart .ensures) (c .before .if3 .left))))
+
+pub peers-sound-spec : {M : Type 1} → statement M
+peers-sound-spec =
+    tie.close
+    (tie.spec
+    none-marked-requires
+    returns
+    each-sound-requires
+    returns-2
+    handles-apart-requires
+    returns-3
+    count-marks-requires
+    returns-4)

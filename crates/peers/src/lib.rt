@@ -1,0 +1,248 @@
+// A channel's peer registrations: the services that the other end has registered with us, by the place of each one's id.
+use model::FIRST_ID_WORD;
+use model::FIRST_PEER_WORD;
+use model::Found;
+use model::ID_COUNT_WORD;
+use model::ID_MINOR_PLACE;
+use model::ID_WORDS;
+use model::MOST_IDS;
+use model::MOST_PEERS;
+use model::PEER_WORDS;
+use model::State;
+use model::TOP_BIT;
+ghost use mathlib.Core.Path.{_≡_};
+ghost use mathlib.Core.Bool.{true, not};
+ghost use Prim.Native.Nat.{ℕ, _<_, _≤_};
+ghost use lib.Dec.{eqb};
+ghost use Rattle.model.specs.Choice.{_or_, every, isFound};
+ghost use Rattle.model.specs.Layout.{channelCount, mostIds, peeredAt, peerHandleAt, peerMinorAt, readyAt, withPeer, withoutPeer};
+ghost use Rattle.model.specs.Peers.{isPeered, peerApart, peeredAs, peerFor, peersBelow, peerSound, peersSound};
+
+// Reads.
+
+// 1 where the peer has id p registered on the channel.
+fn mark_of(state: &State, channel: usize, p: usize) -> u64
+    requires { ⌜ (channel < channelCount) × (p < mostIds) ⌝ }
+    ensures { λ r. ⌜ r ≡ peeredAt (now (state .entry)) channel p ⌝ }
+{
+    state[FIRST_PEER_WORD + channel * PEER_WORDS + p]
+}
+
+pub fn handle_of(state: &State, channel: usize, p: usize) -> u64
+    requires { ⌜ (channel < channelCount) × (p < mostIds) ⌝ }
+    ensures { λ r. ⌜ r ≡ peerHandleAt (now (state .entry)) channel p ⌝ }
+{
+    state[FIRST_PEER_WORD + channel * PEER_WORDS + MOST_IDS + p]
+}
+
+pub fn minor_of(state: &State, channel: usize, p: usize) -> u64
+    requires { ⌜ (channel < channelCount) × (p < mostIds) ⌝ }
+    ensures { λ r. ⌜ r ≡ peerMinorAt (now (state .entry)) channel p ⌝ }
+{
+    state[FIRST_PEER_WORD + channel * PEER_WORDS + MOST_IDS + MOST_IDS + p]
+}
+
+// The peer has id p registered on the channel.
+pub fn is_peered(state: &State, channel: usize, p: usize) -> bool
+    requires { ⌜ (channel < channelCount) × (p < mostIds) ⌝ }
+    ensures { λ r. ⌜ r ≡ isPeered (now (state .entry)) channel p ⌝ }
+{
+    mark_of(state, channel, p) == 1
+}
+
+// It has it registered under the handle.
+fn peered_as(state: &State, channel: usize, handle: u64, p: usize) -> bool
+    requires { ⌜ (channel < channelCount) × (p < mostIds) ⌝ }
+    ensures { λ r. ⌜ r ≡ peeredAs (now (state .entry)) channel handle p ⌝ }
+{
+    if mark_of(state, channel, p) != 1 {
+        return false;
+    }
+    handle_of(state, channel, p) == handle
+}
+
+// The registration that the peer has under the handle, if there is one.
+pub fn find_peer(state: &State, channel: usize, handle: u64) -> Found
+    requires { ⌜ channel < channelCount ⌝ }
+    ensures { λ r. ⌜ r ≡ peerFor (now (state .entry)) channel handle ⌝ }
+{
+    let mut p: usize = 0;
+    while p < MOST_IDS {
+        if peered_as(state, channel, handle, p) {
+            return Found::At { place: p };
+        }
+        p += 1;
+    }
+    Found::Nowhere
+}
+
+// The handle is one of the peer's live handles there.
+pub fn has_handle(state: &State, channel: usize, handle: u64) -> bool
+    requires { ⌜ channel < channelCount ⌝ }
+    ensures { λ r. ⌜ r ≡ isFound (peerFor (now (state .entry)) channel handle) ⌝ }
+{
+    let found = find_peer(state, channel, handle);
+    match found {
+        Found::At { place: _ } => true,
+        Found::Nowhere => false,
+    }
+}
+
+// How many marks there are, each 0 or 1.
+fn count_marks(state: &State, channel: usize) -> u64
+    requires { ⌜ (channel < channelCount) × ((p : ℕ) → p < mostIds → peeredAt (now state) channel p ≤ 1) ⌝ }
+    ensures { λ r. ⌜ r ≡ peersBelow (now (state .entry)) channel mostIds ⌝ }
+{
+    let mut n: u64 = 0;
+    let mut p: usize = 0;
+    while p < MOST_IDS {
+        n += mark_of(state, channel, p);
+        p += 1;
+    }
+    n
+}
+
+// How many registrations the channel has, in a sound state.
+pub fn count(state: &State, channel: usize) -> u64
+    requires { ⌜ (channel < channelCount) × (peersSound (now state) (readyAt (now state) channel) channel ≡ true) ⌝ }
+    ensures { λ r. ⌜ r ≡ peersBelow (now (state .entry)) channel mostIds ⌝ }
+{
+    count_marks(state, channel)
+}
+
+// Changes.
+
+// A registration made.
+pub fn set_peer(state: &mut State, channel: usize, p: usize, handle: u64, minor: u64)
+    requires { ⌜ (channel < channelCount) × (p < mostIds) ⌝ }
+    ensures { λ _. ⌜ now (state .exit) ≡ withPeer (now (state .entry)) channel p handle minor ⌝ }
+{
+    state[FIRST_PEER_WORD + channel * PEER_WORDS + p] = 1;
+    state[FIRST_PEER_WORD + channel * PEER_WORDS + MOST_IDS + p] = handle;
+    state[FIRST_PEER_WORD + channel * PEER_WORDS + MOST_IDS + MOST_IDS + p] = minor;
+}
+
+// A registration ended.
+pub fn end_peer(state: &mut State, channel: usize, p: usize)
+    requires { ⌜ (channel < channelCount) × (p < mostIds) ⌝ }
+    ensures { λ _. ⌜ now (state .exit) ≡ withoutPeer (now (state .entry)) channel p ⌝ }
+{
+    state[FIRST_PEER_WORD + channel * PEER_WORDS + p] = 0;
+}
+
+// Soundness.
+
+// "a closed channel has no peer registrations, a ready one .. whose handles lack that bit .., each listed, with no minor above the list's"
+fn peer_sound(state: &State, ready: u64, channel: usize, p: usize) -> bool
+    requires { ⌜ (channel < channelCount) × (p < mostIds) ⌝ }
+    ensures { λ r. ⌜ r ≡ peerSound (now (state .entry)) ready channel p ⌝ }
+{
+    if mark_of(state, channel, p) == 0 {
+        return true;
+    }
+    if mark_of(state, channel, p) != 1 {
+        return false;
+    }
+    if ready != 1 {
+        return false;
+    }
+    if state[ID_COUNT_WORD] <= p as u64 {
+        return false;
+    }
+    if TOP_BIT <= handle_of(state, channel, p) {
+        return false;
+    }
+    minor_of(state, channel, p) <= state[FIRST_ID_WORD + p * ID_WORDS + ID_MINOR_PLACE]
+}
+
+fn each_sound(state: &State, channel: usize) -> bool
+    requires { ⌜ channel < channelCount ⌝ }
+    ensures { λ r. ⌜ r ≡ every mostIds (peerSound (now (state .entry)) (readyAt (now (state .entry)) channel) channel) ⌝ }
+{
+    let ready = state[channel];
+    let mut p: usize = 0;
+    while p < MOST_IDS {
+        if !peer_sound(state, ready, channel, p) {
+            return false;
+        }
+        p += 1;
+    }
+    true
+}
+
+// Id q is not registered, or not under the handle.
+fn differs(state: &State, channel: usize, q: usize, handle: u64) -> bool
+    requires { ⌜ (channel < channelCount) × (q < mostIds) ⌝ }
+    ensures { λ r. ⌜ r ≡ (eqb (peeredAt (now (state .entry)) channel q) 0 or not (eqb (peerHandleAt (now (state .entry)) channel q) handle)) ⌝ }
+{
+    if mark_of(state, channel, q) == 0 {
+        return true;
+    }
+    handle_of(state, channel, q) != handle
+}
+
+// "and differ there": id p's handle from those registered before it.
+fn peer_apart(state: &State, channel: usize, p: usize) -> bool
+    requires { ⌜ (channel < channelCount) × (p < mostIds) ⌝ }
+    ensures { λ r. ⌜ r ≡ peerApart (now (state .entry)) channel p ⌝ }
+{
+    if mark_of(state, channel, p) == 0 {
+        return true;
+    }
+    let handle = handle_of(state, channel, p);
+    let mut q: usize = 0;
+    while q < p {
+        if !differs(state, channel, q, handle) {
+            return false;
+        }
+        q += 1;
+    }
+    true
+}
+
+fn handles_apart(state: &State, channel: usize) -> bool
+    requires { ⌜ channel < channelCount ⌝ }
+    ensures { λ r. ⌜ r ≡ every mostIds (peerApart (now (state .entry)) channel) ⌝ }
+{
+    let mut p: usize = 0;
+    while p < MOST_IDS {
+        if !peer_apart(state, channel, p) {
+            return false;
+        }
+        p += 1;
+    }
+    true
+}
+
+// The channel has no mark: one look at each word, which is all that a channel without registrations costs. All of them are read: a loop without another way out
+// takes several words a turn.
+fn none_marked(state: &State, channel: usize) -> bool
+    requires { ⌜ channel < channelCount ⌝ }
+    ensures { λ r. ⌜ r ≡ every mostIds (λ p. eqb (peeredAt (now (state .entry)) channel p) 0) ⌝ }
+{
+    let mut marks: u64 = 0;
+    let mut p: usize = 0;
+    while p < MOST_IDS {
+        marks = marks | mark_of(state, channel, p);
+        p += 1;
+    }
+    marks == 0
+}
+
+// "a closed channel has no peer registrations, a ready one at most eight, whose handles lack that bit and differ there, as do their ids, each listed, with
+// no minor above the list's"
+pub fn peers_sound(state: &State, channel: usize) -> bool
+    requires { ⌜ channel < channelCount ⌝ }
+    ensures { λ r. ⌜ r ≡ peersSound (now (state .entry)) (readyAt (now (state .entry)) channel) channel ⌝ }
+{
+    if none_marked(state, channel) {
+        return true;
+    }
+    if !each_sound(state, channel) {
+        return false;
+    }
+    if !handles_apart(state, channel) {
+        return false;
+    }
+    count_marks(state, channel) <= MOST_PEERS
+}

@@ -1,0 +1,39 @@
+-- `reception::is_shown` meets its contract: the cases of the definition.
+-- Assumes nothing.
+use mathlib.Core.Path.{_≡_, sym, ap, _∙_}
+use mathlib.Core.Bool.{Bool, true, false}
+use Rattle.model.specs.Choice.{_or_}
+use Rattle.model.specs.Messages.{registeredFor}
+use Rattle.model.specs.Calls.{goesToHost}
+use borrow.Author.Needs.{needs}
+use Rattle.reception.proofs.is_shown.Statement.{statement}
+use Rattle.reception.proofs.is_shown.Tie as tie
+
+find-staged-requires : tie.Need-find-staged-requires
+find-staged-requires c κs = search needs
+
+goes-to-host-requires : tie.Need-goes-to-host-requires
+goes-to-host-requires c κs = search needs
+
+-- the test, of the service registered under this handle on this channel
+abbrev start : tie.After-goes-to-host → tie.Start
+start c = c .before .before
+
+test-of : (c : tie.After-goes-to-host) (b : Bool) → c .goes-to-host .result ≡ b → goesToHost (registeredFor (start c .args .state .now) (start c .args .channel) (start c .args .handle)) ≡ b
+test-of c b e = sym (c .goes-to-host .ensures ∙ ap goesToHost (c .before .find-staged .ensures)) ∙ e
+
+returns : tie.Need-returns
+unfolding _or_
+returns c = rw (test-of (c .before) true (c .if1 .taken))
+
+has-handle-requires : tie.Need-has-handle-requires
+has-handle-requires c κs = search needs
+
+returns-2 : tie.Need-returns-2
+unfolding _or_
+returns-2 c = rw (test-of (c .before .before) false (c .before .if1 .left)) (c .has-handle .ensures)
+
+pub is-shown-spec : {M : Type 1} → statement M
+is-shown-spec =
+    tie.close
+    (tie.spec find-staged-requires goes-to-host-requires returns has-handle-requires returns-2)
