@@ -1,5 +1,5 @@
 /*
- * The agent called from C: the first seven calls of the day at the panel, and the trail drained.
+ * The agent called from C: setup, the first seven calls of the day at the panel, and the trail drained.
  * Build: rt staticlib exports && cc -Iinclude examples/day.c target/staticlib/libexports.a
  */
 #include "arkelutz.h"
@@ -28,17 +28,17 @@ int main(void)
 {
     static const uint64_t blocks[] = {0x10000000, 4, 0, 0, 1, 0x20000000, 2, 1, 1, 1};
     static const uint8_t init_1_0[] = {0, 0, 0, 0, 0, 0, 0, 4, 0, 1, 0, 0};
-    static const uint8_t reg_ack_2[] = {0, 0, 0, 4, 0, 0, 0, 10, 0x80, 0, 0, 0, 0, 0, 0, 2, 0, 0};
-    static const uint8_t unconfigure_a[] = {0,    0,    0, 9, 0, 0, 0, 0x28, 0x80, 0, 0, 0, 0, 0, 0, 2,
+    static const uint8_t reg_ack_3[] = {0, 0, 0, 4, 0, 0, 0, 10, 0x80, 0, 0, 0, 0, 0, 0, 3, 0, 0};
+    static const uint8_t unconfigure_a[] = {0,    0,    0, 9, 0, 0, 0, 0x28, 0x80, 0, 0, 0, 0, 0, 0, 3,
                                             0,    0, 0x4d, 0x55, 0, 0, 0, 1, 0, 0, 0, 0, 0, 0, 0, 9,
                                             0,    0,    0, 0, 0x10, 0, 0, 0, 0, 0, 0, 0, 0, 0, 0x80, 0};
     uint64_t run[ARKELUTZ_JOURNAL_WORDS];
     uint64_t state[ARKELUTZ_STATE_WORDS];
-    uint64_t refused = arkelutz_setup(state, blocks, sizeof blocks / sizeof *blocks, NULL, 0, NULL, 0);
+    uint64_t refused = arkelutz_setup(state, blocks, sizeof blocks / sizeof *blocks, NULL, 0, NULL, 0, journal, ARKELUTZ_JOURNAL_WORDS);
 
     refused |= receive(state, init_1_0, sizeof init_1_0);
     refused |= arkelutz_offer(state, CHANNEL, MEMORY_SERVICE, journal, ARKELUTZ_JOURNAL_WORDS, out, sizeof out).refusal;
-    refused |= receive(state, reg_ack_2, sizeof reg_ack_2);
+    refused |= receive(state, reg_ack_3, sizeof reg_ack_3);
     refused |= receive(state, unconfigure_a, sizeof unconfigure_a);
     refused |= work(state, 3);
     refused |= work(state, 3);

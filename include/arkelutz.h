@@ -20,9 +20,9 @@
 extern "C" {
 #endif
 
-#define ARKELUTZ_STATE_WORDS 1661
-#define ARKELUTZ_JOURNAL_WORDS 128 /* every call but setup and show asks for a journal of just this length */
-#define ARKELUTZ_OUTPUT_BYTES 672  /* and, but for drain, for an output of this length or more */
+#define ARKELUTZ_STATE_WORDS 2045
+#define ARKELUTZ_JOURNAL_WORDS 128 /* every call but show asks for a journal of just this length */
+#define ARKELUTZ_OUTPUT_BYTES 2592 /* and, but for setup and drain, for an output of this length or more */
 
 /*
  * A virtual device, as a device list has it: 36 words. The name is its bytes with their zero (1 to 256), eight to a word, the most significant first, so that
@@ -99,11 +99,13 @@ struct arkelutz_order {
 };
 
 /*
- * Takes a block list, five words a block, a device list, ARKELUTZ_DEVICE_WORDS words a device, and an id list, ARKELUTZ_ID_WORDS words an id, writes the first
- * state, and returns the refusal, 0 or 7.
+ * Takes a block list, five words a block and at most 64 blocks, a device list, ARKELUTZ_DEVICE_WORDS words a device, and an id list, ARKELUTZ_ID_WORDS words an id,
+ * writes the first state and, to the journal, entry number 1, the edition mark, and returns the refusal: 0, 1 or 7. A state that a refused setup wrote, or that is
+ * all zeros, makes every call refuse with 8 until a setup is accepted.
  */
 uint64_t arkelutz_setup(uint64_t *state, const uint64_t *blocks, size_t block_words, const uint64_t *devices,
-                        size_t device_words, const uint64_t *ids, size_t id_words);
+                        size_t device_words, const uint64_t *ids, size_t id_words, uint64_t *journal,
+                        size_t journal_words);
 
 /* Receives a message on a channel. */
 struct arkelutz_answer arkelutz_receive(uint64_t *state, size_t channel, const uint8_t *message, size_t message_bytes,

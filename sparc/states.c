@@ -16,13 +16,13 @@
 
 #define CHANNELS 4
 #define SERVICES 4
-#define BLOCKS 16
+#define BLOCKS 64
 #define BLOCK_WORDS 5
 #define DEVICES 32
 #define DEVICE_WORDS 36
 #define NAME 4 /* the first of a device's words that hold its name */
 #define NAME_WORDS 32
-#define DEVICE_COUNT 199 /* the state's word before those of devices */
+#define DEVICE_COUNT 583 /* the state's word before those of devices */
 #define PERMISSION (DEVICE_COUNT + 1 + DEVICES * DEVICE_WORDS) /* the first of two permissions, the order and its delay */
 #define IDS 16
 #define ID_WORDS 7
@@ -32,11 +32,12 @@
 #define PEERS 4 /* handles that the other end chooses */
 #define SHUTDOWN 2 /* the service domain-shutdown; domain-panic is the next one */
 #define ORDERS 3   /* none, shutdown, panic */
-#define RECORDS 16
+#define RECORDS 64
 #define PAGE 8192
 #define SPARE 28 /* bytes of output past those that a call asks for */
-#define MESSAGE_BYTES 640
+#define MESSAGE_BYTES 1088
 #define CALLS_A_STATE 80
+#define CALLS_REFUSED 4 /* on the state that a refused setup gives */
 #define WORDS_EVERY 997
 #define REFUSALS 9
 #define UNSOUND 8
@@ -379,9 +380,10 @@ static void make_ids(void)
         id_words = below(id_words + 2);
 }
 
-static void begin(void)
+/* A setup and what brings its state on; 0 where setup refuses. */
+static int begin(void)
 {
-    uint64_t blocks = below(6) ? 1 + below(6) : below(BLOCKS + 1), base = PAGE * below(1000);
+    uint64_t blocks = below(6) ? 1 + below(6) : below(BLOCKS + 1), base = PAGE * below(1000), refusal;
 
     memset(list, 0, sizeof list);
     list_words = blocks * BLOCK_WORDS;
@@ -407,7 +409,10 @@ static void begin(void)
     request = below(3) ? below(100) : any();
     make_devices();
     make_ids();
-    told(SETUP, arkelutz_setup(state, list, list_words, devices, device_words, ids, id_words), 0, 0);
+    refusal = arkelutz_setup(state, list, list_words, devices, device_words, ids, id_words, journal, journal_words());
+    told(SETUP, refusal, 0, 0);
+    if (refusal != 0)
+        return 0;
     for (uint64_t channel = 0; channel < CHANNELS; channel++) {
         if (below(4) == 0)
             continue;
@@ -425,6 +430,7 @@ static void begin(void)
             receive(channel);
         }
     }
+    return 1;
 }
 
 static void permit(uint64_t service)
@@ -542,8 +548,9 @@ int main(int argc, char **argv)
     calls = strtoull(argv[1], NULL, 10);
     seed = strtoull(argv[2], NULL, 10);
     while (done < calls) {
-        begin();
-        for (int i = 0; i < CALLS_A_STATE && done < calls; i++)
+        int of_state = begin() ? CALLS_A_STATE : CALLS_REFUSED;
+
+        for (int i = 0; i < of_state && done < calls; i++)
             made_call();
     }
     for (size_t call = 0; call < CALLS; call++) {

@@ -8,8 +8,13 @@ pub struct Independent;
 impl Agent for Independent {
     type State = independent::State;
 
-    fn setup(blocks: &[u64], devices: &[u64], ids: &[u64]) -> Result<Self::State, u64> {
-        independent::setup(blocks, devices, ids)
+    fn setup(
+        blocks: &[u64],
+        devices: &[u64],
+        ids: &[u64],
+        journal: &mut [u64],
+    ) -> Result<Self::State, u64> {
+        independent::setup(blocks, devices, ids, journal)
     }
 
     #[inline(never)]

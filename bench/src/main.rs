@@ -26,14 +26,21 @@ const BATCH: usize = 48;
 /// Our handles have the top bit over the offer's entry number; on channel 0
 /// those of `dr-mem`, `dr-vio` and `domain-shutdown`.
 const TOP_BIT: u64 = 1 << 63;
-const MEMORY: u64 = TOP_BIT | 2;
-const VIO: u64 = TOP_BIT | 4;
-const SHUTDOWN: u64 = TOP_BIT | 6;
+const MEMORY: u64 = TOP_BIT | 3;
+const VIO: u64 = TOP_BIT | 5;
+const SHUTDOWN: u64 = TOP_BIT | 7;
+/// The least output that a call must be lent.
+const OUTPUT: usize = 2_592;
 
 /// The calls that are timed, and those that lead to them.
 pub trait Agent {
     type State: Copy;
-    fn setup(blocks: &[u64], devices: &[u64], ids: &[u64]) -> Result<Self::State, u64>;
+    fn setup(
+        blocks: &[u64],
+        devices: &[u64],
+        ids: &[u64],
+        journal: &mut [u64],
+    ) -> Result<Self::State, u64>;
     fn receive(
         state: &mut Self::State,
         channel: u64,
@@ -70,7 +77,7 @@ pub trait Agent {
 struct Host<A: Agent> {
     state: A::State,
     journal: [u64; 128],
-    out: [u8; 672],
+    out: [u8; OUTPUT],
     run: [u64; 128],
 }
 
@@ -110,11 +117,12 @@ impl<A: Agent> Host<A> {
             let permanent = u64::from(block + 1 < blocks);
             list.extend([block * BLOCK_BYTES, 1 << 20, 0, permanent, 1]);
         }
+        let mut journal = [0; 128];
+        let state = A::setup(&list, &devices.words(), &peers.words(), &mut journal);
         let mut host = Host {
-            state: A::setup(&list, &devices.words(), &peers.words())
-                .expect("the lists are accepted"),
-            journal: [0; 128],
-            out: [0; 672],
+            state: state.expect("the lists are accepted"),
+            journal,
+            out: [0; OUTPUT],
             run: [0; 128],
         };
         for channel in 0..channels {
@@ -164,6 +172,11 @@ impl<A: Agent> Host<A> {
     fn work(&mut self) {
         let worked = A::work(&mut self.state, 1, &mut self.journal, &mut self.out);
         black_box(worked).expect("the step is accepted");
+    }
+
+    fn refused_work(&mut self) {
+        let refused = A::work(&mut self.state, 0, &mut self.journal, &mut self.out);
+        assert_eq!(black_box(refused), Err(3));
     }
 
     fn permit(&mut self) {
@@ -224,6 +237,8 @@ enum Calls {
     /// REG_REQ and UNREG of the peer in turn.
     Peer,
     Work,
+    /// Work steps with no budget, refused by 3: soundness alone.
+    Refused,
     DrainOne,
     DrainFull,
 }
@@ -255,6 +270,7 @@ impl Case {
                 Calls::Orders if number % 3 == 0 => host.permit(),
                 Calls::Orders if number % 3 == 2 => host.take(),
                 Calls::Work => host.work(),
+                Calls::Refused => host.refused_work(),
                 Calls::DrainOne => host.drain(2),
                 Calls::DrainFull => {}
                 _ => host.receive(0, message),
@@ -318,8 +334,17 @@ impl Case {
 
 fn cases() -> Vec<Case> {
     let mut cases = Vec::new();
-    for (blocks, channels) in [(1, 1), (4, 1), (16, 1), (16, 4)] {
-        for records in [1, 4, 16] {
+    let few = &[1, 4, 16][..];
+    let many = &[1, 4, 16, 64][..];
+    for (blocks, channels, records) in [
+        (1, 1, few),
+        (4, 1, few),
+        (16, 1, many),
+        (64, 1, many),
+        (16, 4, few),
+        (64, 4, many),
+    ] {
+        for &records in records {
             let handles = channels * 4;
             cases.push(Case {
                 name: format!("QUERY: records {records}, blocks {blocks}, live handles {handles}"),
@@ -335,20 +360,49 @@ fn cases() -> Vec<Case> {
     cases.extend(device_cases());
     cases.extend(peer_cases());
     let others = [
-        ("shutdown request, denied", Prepare::Nothing, Calls::Denied),
+        (
+            "shutdown request, denied",
+            16,
+            Prepare::Nothing,
+            Calls::Denied,
+        ),
         (
             "permit, request, take in turn",
+            16,
             Prepare::Nothing,
             Calls::Orders,
         ),
-        ("work step, 1 page collected", Prepare::Removal, Calls::Work),
-        ("drain of 1 entry", Prepare::Full, Calls::DrainOne),
-        ("drain of 64 entries", Prepare::Full, Calls::DrainFull),
+        (
+            "work step, 1 page collected",
+            16,
+            Prepare::Removal,
+            Calls::Work,
+        ),
+        (
+            "work step, 1 page collected, blocks 64",
+            64,
+            Prepare::Removal,
+            Calls::Work,
+        ),
+        (
+            "soundness, blocks 16",
+            16,
+            Prepare::Nothing,
+            Calls::Refused,
+        ),
+        (
+            "soundness, blocks 64",
+            64,
+            Prepare::Nothing,
+            Calls::Refused,
+        ),
+        ("drain of 1 entry", 16, Prepare::Full, Calls::DrainOne),
+        ("drain of 64 entries", 16, Prepare::Full, Calls::DrainFull),
     ];
-    for (name, prepare, calls) in others {
+    for (name, blocks, prepare, calls) in others {
         cases.push(Case {
             name: name.to_string(),
-            blocks: 16,
+            blocks,
             channels: 1,
             devices: Devices::NONE,
             peers: Peers::NONE,

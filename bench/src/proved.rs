@@ -1,7 +1,7 @@
 //! The proved agent, by its static library. Nothing checks these declarations
 //! against crates/exports but the comparisons of results in this package.
 
-pub const STATE_WORDS: usize = 1_661;
+pub const STATE_WORDS: usize = 2_045;
 
 /// The agent's state.
 pub type Words = [u64; STATE_WORDS];
@@ -48,6 +48,8 @@ extern "C" {
         device_words: usize,
         ids: *const u64,
         id_words: usize,
+        journal: *mut u64,
+        journal_words: usize,
     ) -> u64;
     fn arkelutz_receive(
         state: *mut Words,
@@ -126,9 +128,15 @@ extern "C" {
     ) -> usize;
 }
 
-/// Writes the first state; gives the refusal.
+/// Writes the first state and the journal's mark; gives the refusal.
 #[inline]
-pub fn setup(state: &mut Words, blocks: &[u64], devices: &[u64], ids: &[u64]) -> u64 {
+pub fn setup(
+    state: &mut Words,
+    blocks: &[u64],
+    devices: &[u64],
+    ids: &[u64],
+    journal: &mut [u64],
+) -> u64 {
     unsafe {
         arkelutz_setup(
             state,
@@ -138,6 +146,8 @@ pub fn setup(state: &mut Words, blocks: &[u64], devices: &[u64], ids: &[u64]) ->
             devices.len(),
             ids.as_ptr(),
             ids.len(),
+            journal.as_mut_ptr(),
+            journal.len(),
         )
     }
 }

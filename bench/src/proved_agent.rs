@@ -16,9 +16,14 @@ pub struct Proved;
 impl Agent for Proved {
     type State = Words;
 
-    fn setup(blocks: &[u64], devices: &[u64], ids: &[u64]) -> Result<Self::State, u64> {
+    fn setup(
+        blocks: &[u64],
+        devices: &[u64],
+        ids: &[u64],
+        journal: &mut [u64],
+    ) -> Result<Self::State, u64> {
         let mut state = [0; STATE_WORDS];
-        let refusal = proved::setup(&mut state, blocks, devices, ids);
+        let refusal = proved::setup(&mut state, blocks, devices, ids, journal);
         outcome(refusal, state)
     }
 

@@ -6,8 +6,8 @@ pub const PAGE: u64 = 8_192;
 pub const MAX_PAGES: u64 = 1_048_576;
 /// A block's end is at most 2^63.
 pub const MAX_END: u64 = 1 << 63;
-/// There are 0 to 16 blocks.
-pub const MAX_BLOCKS: usize = 16;
+/// There are 0 to 64 blocks.
+pub const MAX_BLOCKS: usize = 64;
 /// Setup gives five words for each block.
 pub const BLOCK_WORDS: usize = 5;
 
@@ -29,10 +29,20 @@ pub struct Pair {
 }
 
 /// The block list: the first `count` of `list`.
-#[derive(Clone, Copy, Debug, Default, PartialEq, Eq)]
+#[derive(Clone, Copy, Debug, PartialEq, Eq)]
 pub struct Blocks {
     pub count: usize,
     pub list: [Block; MAX_BLOCKS],
+}
+
+impl Default for Blocks {
+    /// No blocks.
+    fn default() -> Blocks {
+        Blocks {
+            count: 0,
+            list: [Block::default(); MAX_BLOCKS],
+        }
+    }
 }
 
 impl Block {

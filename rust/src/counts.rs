@@ -1,5 +1,6 @@
 //! What a list of calls reached, counted from the input and a host's output.
 
+mod blocks;
 mod devices;
 mod numbers;
 mod orders;
@@ -11,6 +12,7 @@ use crate::device::service::REPLY_BYTES;
 use crate::entry::{CODE, COUNT, KIND, SERVICE};
 use crate::lines::{Call, Line};
 use crate::memory::{self, PAIR_BYTES, QUERY_BYTES, RECORDS_START, RESULT_BYTES};
+use crate::reader::Edition;
 use crate::wire::{self, get32, get64};
 use replay::Replay;
 use std::collections::BTreeMap;
@@ -85,6 +87,7 @@ fn must_reach() -> Vec<String> {
     let mut names = vec!["line bad".to_string()];
     let of_tickets = devices::MUST_REACH.into_iter().chain(orders::MUST_REACH);
     let of_tickets = of_tickets.chain(peers::MUST_REACH);
+    let of_tickets = of_tickets.chain(blocks::MUST_REACH);
     for (group, members) in MUST_REACH.into_iter().chain(of_tickets) {
         names.extend(
             members
@@ -100,6 +103,13 @@ fn must_reach() -> Vec<String> {
         names.extend(answers.map(|answer| format!("memory received {name} -> {answer}")));
         names.extend(["equal", "lower"].map(|how| format!("number refused {name} {how}")));
     }
+    // A repeat, and what became of it, also from record 16 on.
+    let repeats: Vec<String> = names
+        .iter()
+        .filter_map(|name| name.strip_prefix("repeat in "))
+        .map(|rest| format!("repeat from record 16 on in {rest}"))
+        .collect();
+    names.extend(repeats);
     names
 }
 
@@ -249,8 +259,9 @@ impl Counts {
 
     /// An entry's kind, and the codes of the kinds that have some.
     fn entry(&mut self, words: &str) {
-        let first = words.split(' ').next().unwrap_or_default();
-        let first = u64::from_str_radix(first, 16).unwrap_or(0);
+        let mut words = words.split(' ').map(|word| u64::from_str_radix(word, 16));
+        let mut next = || words.next().and_then(Result::ok).unwrap_or(0);
+        let (first, second) = (next(), next());
         let (kind, code) = (KIND.of(first), CODE.of(first));
         self.add(format!("entry kind {kind:2}"));
         match (kind, SERVICE.of(first)) {
@@ -265,6 +276,35 @@ impl Counts {
                 "without"
             };
             self.add(format!("entry end {sent} reply"));
+        }
+        self.more_entry(kind, first, second);
+    }
+
+    /// The blocks and records that an entry tells of.
+    fn more_entry(&mut self, kind: u64, first: u64, second: u64) {
+        match kind {
+            11 => {
+                let more = second >> blocks::MORE != 0;
+                let place = if more { "from 16 on" } else { "up to 15" };
+                self.add(format!("entry 11 of a block {place}"));
+            }
+            12 => {
+                let count = match blocks::records(COUNT.of(first) as usize) {
+                    more @ ("17 to 63" | "64") => more,
+                    _ => "up to 16",
+                };
+                self.add(format!("entry 12 of {count} records"));
+            }
+            15 => {
+                let code = CODE.of(first);
+                let (record, block) = Edition::New.settled(first, second);
+                for (place, what) in [(record, "record"), (block, "block")] {
+                    if place >= blocks::MORE as u64 {
+                        self.add(format!("entry 15 code {code} of a {what} from 16 on"));
+                    }
+                }
+            }
+            _ => {}
         }
     }
 
@@ -293,6 +333,7 @@ impl Counts {
                 ));
                 self.results(&reply);
                 self.repeats("UNCONFIGURE", &reply, RESULT_BYTES);
+                self.removal_end(&reply);
             }
             _ => {}
         }
@@ -329,6 +370,9 @@ impl Counts {
             _ => memory_name(get32(reply, 16)),
         };
         self.add(format!("memory received {asked} -> {replied}"));
+        if let "CONFIGURE" | "UNCONFIGURE" | "QUERY" = asked {
+            self.asked_records(asked, data, replied);
+        }
         if reply.len() < RECORDS_START {
             return;
         }
@@ -347,11 +391,52 @@ impl Counts {
         }
     }
 
+    /// How many records a request has whose form is right but for their count.
+    fn asked_records(&mut self, asked: &str, data: &[u8], replied: &str) {
+        let count = get32(data, 4) as usize;
+        let whole = data.len() == memory::HEADER + count.saturating_mul(PAIR_BYTES);
+        match (count, replied) {
+            (1..=64, "OK" | "no reply") => {
+                let count = blocks::records(count);
+                self.add(format!("records in {asked} {count}"));
+            }
+            (65, "ERROR") if whole => self.add(format!("records in {asked} 65 as ERROR")),
+            _ => {}
+        }
+    }
+
     fn results(&mut self, reply: &[u8]) {
-        for record in reply[RECORDS_START..].chunks_exact(RESULT_BYTES) {
+        let records = reply[RECORDS_START..].chunks_exact(RESULT_BYTES);
+        for (place, record) in records.enumerate() {
             let (result, status) = (get32(record, 16), get32(record, 20));
             self.add(format!("result/status {result}/{status}"));
+            if place >= blocks::MORE {
+                self.add(format!("result/status from record 16 on {result}/{status}"));
+            }
+            if self.replay.is_later_block(record) {
+                self.add(format!(
+                    "result/status of a block from 16 on {result}/{status}"
+                ));
+            }
         }
+    }
+
+    /// How a removal of many records ended, from the results of its reply.
+    fn removal_end(&mut self, reply: &[u8]) {
+        let records = reply[RECORDS_START..].chunks_exact(RESULT_BYTES);
+        if records.len() <= blocks::MORE {
+            return;
+        }
+        let results = records.map(|record| result_name(get32(record, 16)));
+        let end = results
+            .zip(0..)
+            .find(|(result, _)| !matches!(*result, "OK" | "NOWORK"));
+        let name = match end {
+            None => "all settled".to_string(),
+            Some((result, place)) if place < blocks::MORE => format!("{result} before record 16"),
+            Some((result, _)) => format!("{result} from record 16 on"),
+        };
+        self.add(format!("removal of 17 to 64 records {name}"));
     }
 
     /// The records whose pair stands before, adjacent or apart; for results
@@ -368,16 +453,23 @@ impl Counts {
                 true => "adjacent",
                 false => "apart",
             };
-            self.add(format!("repeat in {asked} {place}"));
+            let mut told = vec![format!("in {asked} {place}")];
             if size == RESULT_BYTES {
                 let [first, then] = [first, record].map(|record| result_name(get32(record, 16)));
-                self.add(format!("repeat in {asked} {first} then {then}"));
+                told.push(format!("in {asked} {first} then {then}"));
+            }
+            for told in told {
+                if at >= blocks::MORE {
+                    self.add(format!("repeat from record 16 on {told}"));
+                }
+                self.add(format!("repeat {told}"));
             }
         }
     }
 
     fn query(&mut self, reply: &[u8]) {
-        for record in reply[RECORDS_START..].chunks_exact(QUERY_BYTES) {
+        let records = reply[RECORDS_START..].chunks_exact(QUERY_BYTES);
+        for (place, record) in records.enumerate() {
             let (size, permanent) = (get64(record, 8), get64(record, 16));
             let name = match permanent {
                 _ if size == 0 => "size 0",
@@ -386,6 +478,12 @@ impl Counts {
                 _ => "part permanent",
             };
             self.add(format!("QUERY record {name}"));
+            if place >= blocks::MORE {
+                self.add(format!("QUERY from record 16 on {name}"));
+            }
+            if self.replay.is_later_block(record) {
+                self.add(format!("QUERY of a block from 16 on {name}"));
+            }
         }
     }
 
@@ -444,16 +542,16 @@ impl Counts {
 impl Display for Counts {
     fn fmt(&self, text: &mut Formatter) -> fmt::Result {
         for (name, count) in &self.listed {
-            writeln!(text, "{name:52} {count:>10}")?;
+            writeln!(text, "{name:66} {count:>10}")?;
         }
-        writeln!(text, "{:52} {:>10} {:>11}", "refusals", "lists", "bounds")?;
+        writeln!(text, "{:66} {:>10} {:>11}", "refusals", "lists", "bounds")?;
         for number in 1..=8 {
             let lists = self.refusals(number);
             let made = match &self.made {
                 Some(made) => made[number].to_string(),
                 None => "-".to_string(),
             };
-            writeln!(text, "refusal {number:<44} {lists:>10} {made:>11}")?;
+            writeln!(text, "refusal {number:<58} {lists:>10} {made:>11}")?;
         }
         Ok(())
     }

@@ -41,7 +41,7 @@ pub enum Code {
 /// One result for each of a request's records, the first `count` of them.
 pub type Codes = [Code; MAX_RECORDS];
 
-/// The pairs of a request, as they stand in the message: 1 to 16.
+/// The pairs of a request, as they stand in the message: 1 to 64.
 #[derive(Clone, Copy)]
 pub(crate) struct Pairs<'a>(&'a [[u8; PAIR_BYTES]]);
 
@@ -53,7 +53,7 @@ impl<'a> Pairs<'a> {
         (whole && (1..=MAX_RECORDS).contains(&pairs.len())).then_some(Pairs(pairs))
     }
 
-    fn iter(self) -> impl ExactSizeIterator<Item = Pair> + 'a {
+    pub(crate) fn iter(self) -> impl ExactSizeIterator<Item = Pair> + 'a {
         self.0.iter().map(|pair| Pair {
             addr: get64(pair, 0),
             size: get64(pair, 8),
@@ -100,7 +100,7 @@ impl Reply<'_> {
     #[inline]
     fn headers(&mut self, memory_type: u32, argument: usize, follow: usize) -> usize {
         let payload = RECORDS_START - wire::HEADER + follow;
-        // The argument is at most 16.
+        // The argument is at most 64.
         let headers = Writer::message(self.out, wire::DATA, payload)
             .put64(self.handle)
             .put32(memory_type)

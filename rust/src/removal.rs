@@ -5,8 +5,8 @@ use crate::entry::{record, Event};
 use crate::memory::{Code, Codes, Reply};
 use crate::state::{refusal, Service, State};
 
-/// A removal has 1 to 16 records.
-pub const MAX_RECORDS: usize = 16;
+/// A removal has 1 to 64 records.
+pub const MAX_RECORDS: usize = 64;
 /// A work step's budget is 1 to 65,535 pages.
 pub const MAX_BUDGET: u64 = 65_535;
 
@@ -57,7 +57,7 @@ enum Step {
 }
 
 impl Removal {
-    /// A removal of 1 to 16 pairs, just begun.
+    /// A removal of 1 to 64 pairs, just begun.
     pub fn begin(
         channel: u64,
         handle: u64,
@@ -184,6 +184,12 @@ impl Removal {
     }
 }
 
+/// Writes the late reply of the outstanding removal, where it stands.
+fn reply(state: &State, code: Code, out: &mut [u8]) -> usize {
+    let removal = state.removal.as_ref();
+    removal.map_or(0, |removal| removal.reply(state, code, out))
+}
+
 /// Does one step of the outstanding removal.
 pub fn work(
     state: &mut State,
@@ -203,13 +209,13 @@ pub fn work(
         }
         Step::SettleNoWork { block } => removal.settle(Settled::NoWork, 0, block),
         Step::End(code) => {
-            let ended = *removal;
+            let request = removal.request;
+            worked.length = reply(state, code, out);
             state.removal = None;
-            worked.length = ended.reply(state, code, out);
             Event::End {
                 code,
                 replied: worked.length > 0,
-                request: ended.request,
+                request,
             }
         }
     };

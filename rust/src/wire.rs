@@ -104,7 +104,7 @@ impl<'a> Writer<'a> {
 
     /// Begins a DS message with its header.
     pub fn message(out: &'a mut [u8], ds_type: u32, payload_len: usize) -> Writer<'a> {
-        // Replies have at most 664 bytes of payload.
+        // Replies have at most 2,584 bytes of payload.
         Writer::new(out).put32(ds_type).put32(payload_len as u32)
     }
 

@@ -22,7 +22,7 @@ fn sixty_three_and_sixty_four_held() {
     // Room for one is used for one.
     let mut run = [0; 3];
     assert_eq!(drain(&mut bench.state, &bench.journal, &mut run), Ok(1));
-    assert_eq!(run, [0x0000_0001_0C00_0000, 0, 0]);
+    assert_eq!(run, [0x0000_0001_F800_0000, 0, 0]);
     assert!(bench.close(2).is_ok());
     assert_eq!(bench.close(2), Err(4));
     assert_eq!(bench.journal[..2], [0x0000_0041_1400_0000, 0]);
@@ -32,7 +32,7 @@ fn sixty_three_and_sixty_four_held() {
 impl Bench {
     fn unconfigure_refused(&mut self) {
         let message = build::data(
-            build::ours(2),
+            build::ours(3),
             &build::request(memory::UNCONFIGURE, 9, &[A]),
         );
         assert_eq!(self.receive(2, &message), Err(4));
@@ -44,11 +44,13 @@ fn the_ring_wraps() {
     let mut bench = Bench::new(&[]);
     let mut next = 1;
     for round in 1..=500u64 {
+        // Setup's own entry is held in the first round.
         for _ in 0..round % 65 {
             bench.close(round % 4).unwrap();
         }
         for (first, second) in bench.drain() {
-            assert_eq!((first >> 32, first >> 27 & 31, second), (next, 2, 0));
+            let kind = if next == 1 { 31 } else { 2 };
+            assert_eq!((first >> 32, first >> 27 & 31, second), (next, kind, 0));
             next += 1;
         }
     }
@@ -66,8 +68,10 @@ fn drain_runs() {
         (5, 2),
         (6, 3),
         (7, 3),
-        (128, 3),
-        (256, 3),
+        (8, 4),
+        (9, 4),
+        (128, 4),
+        (256, 4),
     ] {
         let mut bench = Bench::with_memory();
         let mut run = vec![7; words];
@@ -79,41 +83,45 @@ fn drain_runs() {
         assert!(run[2 * expected..].iter().all(|word| *word == 7));
         assert_eq!(
             (bench.state.held, bench.state.last),
-            (3 - expected as u64, 3)
+            (4 - expected as u64, 4)
         );
     }
 }
 
 #[test]
-fn outputs_of_671_and_672_bytes() {
+fn outputs_of_2_591_and_2_592_bytes() {
     let mut bench = Bench::with_memory();
-    let pairs: Vec<Pair> = (1..=16).map(|addr| Pair { addr, size: 1 }).collect();
+    let pairs: Vec<Pair> = (1..=64).map(|addr| Pair { addr, size: 1 }).collect();
     let query = |number| {
         build::data(
-            build::ours(2),
+            build::ours(3),
             &build::request(memory::QUERY, number, &pairs),
         )
     };
-    bench.out.truncate(671);
+    bench.out.truncate(2591);
     let before = bench.clone();
     assert_eq!(bench.receive(2, &query(1)), Err(2));
     assert_eq!(bench.close(0), Err(2));
+    assert_eq!(bench.offer(2, 1), Err(2));
+    assert_eq!(bench.work(1), Err(2));
     assert_eq!(bench, before);
     let length = |bench: &mut Bench, number| {
         let reply = bench.receive(2, &query(number));
         reply.map(|reply| reply.len())
     };
     bench.out.push(0xee);
-    assert_eq!(length(&mut bench, 1), Ok(672));
+    assert_eq!(length(&mut bench, 1), Ok(2592));
     bench.out.resize(4096, 0xee);
-    assert_eq!(length(&mut bench, 2), Ok(672));
+    assert_eq!(length(&mut bench, 2), Ok(2592));
 }
 
 #[test]
 fn record_counts() {
-    let pairs: Vec<Pair> = (1..=17).map(|addr| Pair { addr, size: 1 }).collect();
+    let pairs: Vec<Pair> = (1..=65).map(|addr| Pair { addr, size: 1 }).collect();
     for memory_type in [memory::QUERY, memory::CONFIGURE, memory::UNCONFIGURE] {
-        for (count, good) in [(0, false), (1, true), (2, true), (16, true), (17, false)] {
+        let good_up_to_64 =
+            [0, 1, 2, 16, 17, 63, 64, 65].map(|count| (count, (1..=64).contains(&count)));
+        for (count, good) in good_up_to_64 {
             let mut bench = Bench::with_memory();
             let reply = bench.request(memory_type, &pairs[..count]);
             let begun = good && memory_type == memory::UNCONFIGURE;
@@ -190,10 +198,10 @@ fn ids_of_reg_req() {
 fn closed_channels_take_init_req_only() {
     let messages = [
         build::reg_req(1, 1, 0, b"x\0"),
-        build::reg_ack(build::ours(2), 0),
-        build::of_handle(6, build::ours(2)),
-        build::nack(build::ours(2), 3),
-        build::data(build::ours(2), b""),
+        build::reg_ack(build::ours(3), 0),
+        build::of_handle(6, build::ours(3)),
+        build::nack(build::ours(3), 3),
+        build::data(build::ours(3), b""),
     ];
     for message in messages {
         let mut bench = Bench::with_memory();
@@ -205,13 +213,13 @@ fn closed_channels_take_init_req_only() {
     }
 }
 
-/// `domain-shutdown` registered on channel 1 under handle 5.
+/// `domain-shutdown` registered on channel 1 under handle 6.
 fn with_shutdown() -> Bench {
     let mut bench = Bench::with_memory();
     bench.receive(1, &build::init_req(1, 0)).unwrap();
     bench.offer(1, 2).unwrap();
     bench
-        .receive(1, &build::reg_ack(build::ours(5), 0))
+        .receive(1, &build::reg_ack(build::ours(6), 0))
         .unwrap();
     bench
 }
@@ -221,17 +229,17 @@ fn show_is_empty() {
     let bench = with_shutdown();
     for channel in [0, 1, 2, 4, 1 << 32 | 1, u64::MAX] {
         for handle in [
-            2,
-            5,
-            build::ours(2),
-            build::ours(5),
-            build::ours(5 | 1 << 32),
+            3,
+            6,
+            build::ours(3),
+            build::ours(6),
+            build::ours(6 | 1 << 32),
         ] {
             let message = build::data(handle, b"stop");
             assert_eq!(show(&bench.state, channel, &message), b"");
             assert_eq!(show(&bench.state, channel, &message[..19]), b"");
         }
-        let message = build::ds(7, &build::ours(5).to_be_bytes());
+        let message = build::ds(7, &build::ours(6).to_be_bytes());
         assert_eq!(show(&bench.state, channel, &message), b"");
     }
 }
@@ -239,8 +247,8 @@ fn show_is_empty() {
 #[test]
 fn handles_are_64_bits_and_of_their_channel() {
     let mut bench = with_shutdown();
-    let own = [2 | 1 << 32, 2 << 32, 0, 5].map(build::ours);
-    let bare = [2, 2 << 32, 0, 5, u64::MAX];
+    let own = [3 | 1 << 32, 3 << 32, 0, 6].map(build::ours);
+    let bare = [3, 3 << 32, 0, 6, u64::MAX];
     for handle in own.into_iter().chain(bare) {
         let reply = bench.receive(2, &build::data(handle, b"abc")).unwrap();
         assert_eq!(reply, build::nack(handle, 3));
@@ -270,11 +278,11 @@ fn an_old_handle_does_not_outlive_init_req() {
     let mut bench = Bench::with_memory();
     bench.receive(2, &build::init_req(1, 0)).unwrap();
     assert_eq!(
-        bench.receive(2, &build::data(build::ours(2), b"abc")),
-        Ok(build::nack(build::ours(2), 3))
+        bench.receive(2, &build::data(build::ours(3), b"abc")),
+        Ok(build::nack(build::ours(3), 3))
     );
     assert_eq!(
-        bench.receive(2, &build::reg_ack(build::ours(2), 0)),
+        bench.receive(2, &build::reg_ack(build::ours(3), 0)),
         Ok(vec![])
     );
     assert_eq!(bench.state.channels[2].services[0], Service::Idle);

@@ -38,16 +38,16 @@ fn zero_counts_fail_and_are_named() {
 
 #[test]
 fn a_host_that_differs_fails() {
-    // `cat` answers every line with itself. The first line that has an answer is
-    // a setup, after those of its devices.
+    // `cat` answers every line with itself. The first line asks for the state
+    // before a setup.
     let output = compare("cat", &["100", "987654"]);
     assert_eq!(output.status.code(), Some(1));
     let text = text(&output);
     assert!(text.contains("\ninput line "), "{text}");
-    assert!(text.contains(": setup"), "{text}");
-    assert!(text.contains("\nindependent: setup "));
+    assert!(text.contains("\ninput line 1: state\n"), "{text}");
+    assert!(text.contains("\nindependent: channel 0 closed\n"));
     let kept = take_kept(&text);
-    assert!(kept.starts_with(b"setup") || kept.starts_with(b"device"));
+    assert!(kept.starts_with(b"state\n"));
 }
 
 #[test]

@@ -12,33 +12,34 @@ fn the_day() {
     assert_eq!(ack, Ok(hex("00000001 00000002 0000")));
     let offered = bench.offer(2, 0);
     let id = "64722d6d656d00";
-    let reg_req = format!("00000003 00000013 8000000000000002 0001 0000 {id}");
+    let reg_req = format!("00000003 00000013 8000000000000003 0001 0000 {id}");
     assert_eq!(offered, Ok(hex(&reg_req)));
-    let reg_ack = hex("00000004 0000000a 8000000000000002 0000");
+    let reg_ack = hex("00000004 0000000a 8000000000000003 0000");
     assert_eq!(bench.receive(2, &reg_ack), Ok(vec![]));
     let unconfigure = hex(
-        "00000009 00000028 8000000000000002 00004d55 00000001 0000000000000009 \
+        "00000009 00000028 8000000000000003 00004d55 00000001 0000000000000009 \
          0000000010000000 0000000000008000",
     );
     assert_eq!(bench.receive(2, &unconfigure), Ok(vec![]));
     assert_eq!(bench.work(3), Ok((3, vec![])));
     assert_eq!(bench.work(3), Ok((1, vec![])));
     let c8 = hex(
-        "00000009 00000034 8000000000000002 0000006f 00000001 0000000000000009 \
+        "00000009 00000034 8000000000000003 0000006f 00000001 0000000000000009 \
          0000000010000000 0000000000008000 00000000 00000001 00000000",
     );
     assert_eq!(c8.len(), 60);
     assert_eq!(bench.work(1), Ok((0, c8)));
-    let c1_to_c7 = [
-        (0x0000_0001_0C00_0000, 0),
-        (0x0000_0002_2400_0000, 0),
-        (0x0000_0003_2C00_0000, 0x8000_0000_0000_0002),
-        (0x0000_0004_6400_0001, 9),
-        (0x0000_0005_7400_0003, 0),
-        (0x0000_0006_7C00_0001, 0),
-        (0x0000_0007_8400_0001, 9),
+    let mark_and_c1_to_c7 = [
+        (0x0000_0001_F800_0000, 0),
+        (0x0000_0002_0C00_0000, 0),
+        (0x0000_0003_2400_0000, 0),
+        (0x0000_0004_2C00_0000, 0x8000_0000_0000_0003),
+        (0x0000_0005_6400_0001, 9),
+        (0x0000_0006_7400_0003, 0),
+        (0x0000_0007_7C00_0001, 0),
+        (0x0000_0008_8400_0001, 9),
     ];
-    assert_eq!(bench.drain(), c1_to_c7);
+    assert_eq!(bench.drain(), mark_and_c1_to_c7);
     assert_eq!(bench.state.removal, None);
     assert!(!bench.state.blocks.list[0].configured);
 }
@@ -98,23 +99,23 @@ fn the_four_offers() {
     let offered = |number| Service::Offered {
         handle: build::ours(number),
     };
-    assert_eq!(bench.state.channels[1].services, [2, 3, 4, 5].map(offered));
+    assert_eq!(bench.state.channels[1].services, [3, 4, 5, 6].map(offered));
     // REG_ACK of a higher minor registers with the lower one, ours.
     assert_eq!(
-        bench.receive(1, &build::reg_ack(build::ours(4), 77)),
+        bench.receive(1, &build::reg_ack(build::ours(5), 77)),
         Ok(vec![])
     );
     let registered = Service::Registered {
-        handle: build::ours(4),
+        handle: build::ours(5),
         minor: 0,
     };
     assert_eq!(bench.state.channels[1].services[2], registered);
     assert_eq!(
         bench.withdraw(1, 2),
-        Ok(hex("00000006 00000008 8000000000000004"))
+        Ok(hex("00000006 00000008 8000000000000005"))
     );
     assert_eq!(bench.withdraw(1, 2), Err(6));
-    let nack = build::reg_nack(build::ours(3), 1, 0);
+    let nack = build::reg_nack(build::ours(4), 1, 0);
     assert_eq!(bench.receive(1, &nack), Ok(vec![]));
     assert_eq!(bench.state.channels[1].services[1], Service::Idle);
     let kinds: Vec<u64> = bench
@@ -122,7 +123,7 @@ fn the_four_offers() {
         .iter()
         .map(|entry| entry.0 >> 27 & 31)
         .collect();
-    assert_eq!(kinds, [1, 4, 4, 4, 4, 5, 7, 6]);
+    assert_eq!(kinds, [31, 1, 4, 4, 4, 4, 5, 7, 6]);
 }
 
 #[test]
@@ -132,28 +133,28 @@ fn peer_messages_and_their_replies() {
     let reg_nack = "00000005 00000012 000000000000abcd 0000000000000001 0000";
     assert_eq!(refused, Ok(hex(reg_nack)));
     assert_eq!(bench.last_entry(), (17, 0, 0, 0, 3));
-    let unreg = bench.receive(2, &build::of_handle(6, build::ours(1)));
-    assert_eq!(unreg, Ok(hex("00000008 00000008 8000000000000001")));
+    let unreg = bench.receive(2, &build::of_handle(6, build::ours(2)));
+    assert_eq!(unreg, Ok(hex("00000008 00000008 8000000000000002")));
     assert_eq!(bench.last_entry(), (17, 0, 0, 0, 6));
-    let nack = bench.receive(2, &build::data(build::ours(1), b"abc"));
+    let nack = bench.receive(2, &build::data(build::ours(2), b"abc"));
     assert_eq!(
         nack,
-        Ok(hex("0000000a 00000010 8000000000000001 0000000000000003"))
+        Ok(hex("0000000a 00000010 8000000000000002 0000000000000003"))
     );
-    assert_eq!(bench.last_entry(), (9, 0, 0, 0, build::ours(1)));
+    assert_eq!(bench.last_entry(), (9, 0, 0, 0, build::ours(2)));
     for (ds_type, message) in [
-        (7, build::of_handle(7, build::ours(2))),
-        (8, build::of_handle(8, build::ours(2))),
-        (10, build::nack(build::ours(2), 3)),
-        (4, build::reg_ack(build::ours(2), 0)),
-        (5, build::reg_nack(build::ours(2), 1, 0)),
+        (7, build::of_handle(7, build::ours(3))),
+        (8, build::of_handle(8, build::ours(3))),
+        (10, build::nack(build::ours(3), 3)),
+        (4, build::reg_ack(build::ours(3), 0)),
+        (5, build::reg_nack(build::ours(3), 1, 0)),
     ] {
         let before = bench.state.channels;
         assert_eq!(bench.receive(2, &message), Ok(vec![]));
         assert_eq!(bench.last_entry(), (17, 0, 0, 0, ds_type));
         assert_eq!(bench.state.channels, before);
     }
-    let unreg = bench.receive(2, &build::of_handle(6, build::ours(2)));
-    assert_eq!(unreg, Ok(hex("00000007 00000008 8000000000000002")));
+    let unreg = bench.receive(2, &build::of_handle(6, build::ours(3)));
+    assert_eq!(unreg, Ok(hex("00000007 00000008 8000000000000003")));
     assert_eq!(bench.last_entry(), (7, 0, 0, 0, 0));
 }

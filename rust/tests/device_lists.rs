@@ -37,10 +37,13 @@ fn many(count: u64, name: &[u8]) -> Vec<u64> {
 fn lists_that_are_accepted() {
     let name = |length: usize| [&vec![b'n'; length - 1][..], b"\0"].concat();
     for length in 1..=256 {
-        assert!(setup(&[], &many(2, &name(length)), &[]).is_ok(), "{length}");
+        assert!(
+            setup(&[], &many(2, &name(length)), &[], &mut [0; 128]).is_ok(),
+            "{length}"
+        );
     }
     for count in [0, 1, 31, 32] {
-        let state = setup(&BLOCK_LIST, &many(count, &name(256)), &[]).unwrap();
+        let state = setup(&BLOCK_LIST, &many(count, &name(256)), &[], &mut [0; 128]).unwrap();
         assert!(state.is_sound());
         assert_eq!((state.devices.count as u64, state.blocks.count), (count, 4));
         let back: Vec<u64> = state
@@ -57,25 +60,31 @@ fn lists_that_are_accepted() {
         words(1, 0, 0, b"b\0"),
         words(2, 0, 0, b"a\0"),
     ];
-    assert!(setup(&[], &list.concat(), &[]).is_ok());
+    assert!(setup(&[], &list.concat(), &[], &mut [0; 128]).is_ok());
     // One name is the beginning of another.
     let list = [
         words(1, 0, 0, b"\0"),
         words(1, 0, 0, b"a\0"),
         words(1, 0, 0, b"aa\0"),
     ];
-    assert!(setup(&[], &list.concat(), &[]).is_ok());
+    assert!(setup(&[], &list.concat(), &[], &mut [0; 128]).is_ok());
     // Words past the name's last are free, and stay.
     let mut free = words(1, 1, 0, b"network\0");
     free[5..].fill(u64::MAX);
-    let state = setup(&[], &free, &[]).unwrap();
+    let state = setup(&[], &free, &[], &mut [0; 128]).unwrap();
     assert_eq!(state.devices.list[0].words(), free);
 }
 
 #[test]
 fn lists_that_are_refused() {
     let good = words(1, 0, 0, b"disk\0");
-    let refused = |list: &[u64]| assert_eq!(setup(&BLOCK_LIST, list, &[]), Err(7), "{list:?}");
+    let refused = |list: &[u64]| {
+        assert_eq!(
+            setup(&BLOCK_LIST, list, &[], &mut [0; 128]),
+            Err(7),
+            "{list:?}"
+        )
+    };
     let changed = |word: usize, value: u64| {
         let mut list = good;
         list[word] = value;
@@ -104,7 +113,13 @@ fn lists_that_are_refused() {
 
 #[test]
 fn more_lists_that_are_refused() {
-    let refused = |list: &[u64]| assert_eq!(setup(&BLOCK_LIST, list, &[]), Err(7), "{list:?}");
+    let refused = |list: &[u64]| {
+        assert_eq!(
+            setup(&BLOCK_LIST, list, &[], &mut [0; 128]),
+            Err(7),
+            "{list:?}"
+        )
+    };
     // A name of 257 bytes whose first 256 are a good one.
     let name = [&[b'n'; 255][..], b"\0\0"].concat();
     refused(&words(1, 0, 0, &name));
@@ -120,7 +135,10 @@ fn more_lists_that_are_refused() {
     for length in [1, 35, 37, 71] {
         refused(&many(2, b"n\0")[..length]);
     }
-    assert_eq!(setup(&[1, 1, 0, 0, 0], &many(1, b"n\0"), &[]), Err(7));
+    assert_eq!(
+        setup(&[1, 1, 0, 0, 0], &many(1, b"n\0"), &[], &mut [0; 128]),
+        Err(7)
+    );
 }
 
 #[test]
@@ -129,12 +147,12 @@ fn an_id_and_name_twice() {
         let mut list = many(32, b"n\0");
         list[other * 36] = list[one * 36];
         list[other * 36 + 1] ^= 1;
-        assert_eq!(setup(&[], &list, &[]), Err(7));
+        assert_eq!(setup(&[], &list, &[], &mut [0; 128]), Err(7));
         // Free words make no difference between names.
         list[other * 36 + 5..other * 36 + 36].fill(1);
-        assert_eq!(setup(&[], &list, &[]), Err(7));
+        assert_eq!(setup(&[], &list, &[], &mut [0; 128]), Err(7));
         list[other * 36 + 4] = u64::from_be_bytes(*b"m\0\0\0\0\0\0\0");
-        assert!(setup(&[], &list, &[]).is_ok());
+        assert!(setup(&[], &list, &[], &mut [0; 128]).is_ok());
     }
 }
 
@@ -162,10 +180,10 @@ fn unsound_and_sound_states() {
     let mut bench = Bench::with_memory();
     bench.offer(2, 3).unwrap();
     bench
-        .receive(2, &build::reg_ack(build::ours(4), 0))
+        .receive(2, &build::reg_ack(build::ours(5), 0))
         .unwrap();
-    bench.state.devices = setup(&[], &list, &[]).unwrap().devices;
-    let message = build::data(build::ours(4), b"abc");
+    bench.state.devices = setup(&[], &list, &[], &mut [0; 128]).unwrap().devices;
+    let message = build::data(build::ours(5), b"abc");
     for (number, spoil) in SPOILS.iter().enumerate() {
         let mut spoilt = bench.clone();
         spoil(&mut spoilt.state);
@@ -209,8 +227,8 @@ fn lines_for_devices() {
     let devices = "device 0 configured\ndevice 1 unconfigured\n";
     // The second setup has no devices.
     let expected = format!(
-        "setup accepted\n{channels}block 0 unconfigured\n{devices}{orders}entries 0\n\
-         setup accepted\n{channels}{orders}entries 0\n"
+        "setup accepted\n{channels}block 0 unconfigured\n{devices}{orders}entries 1\n\
+         setup accepted\n{channels}{orders}entries 1\n"
     );
     assert_eq!(text, expected);
     // A refused setup takes the devices too, a bad line does not.
@@ -239,12 +257,12 @@ fn the_state_has_devices_before_the_removal() {
     let text = host(&format!(
         "device 1 1 1 00\nsetup 0 1 0 0 1\n{}offer 2 0\n{}{}state\n",
         receive(&build::init_req(1, 0)),
-        receive(&build::reg_ack(build::ours(2), 0)),
-        receive(&build::data(build::ours(2), &remove)),
+        receive(&build::reg_ack(build::ours(3), 0)),
+        receive(&build::data(build::ours(3), &remove)),
     ));
     let lines: Vec<&str> = text.lines().rev().take(7).collect();
     let expected = [
-        "entries 4",
+        "entries 5",
         "removal open record 0 pages 0",
         "order none",
         "permission 3 denied",

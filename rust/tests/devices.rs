@@ -35,12 +35,12 @@ fn device_list() -> Vec<u64> {
 fn with_devices(devices: &[u64]) -> Bench {
     let mut bench = Bench::with_memory();
     bench.state = State {
-        devices: setup(&[], devices, &[]).unwrap().devices,
+        devices: setup(&[], devices, &[], &mut [0; 128]).unwrap().devices,
         ..bench.state
     };
     bench.offer(2, 1).unwrap();
     bench
-        .receive(2, &build::reg_ack(build::ours(4), 0))
+        .receive(2, &build::reg_ack(build::ours(5), 0))
         .unwrap();
     bench
 }
@@ -54,7 +54,7 @@ fn ask(bench: &mut Bench, data: &[u8]) -> (Vec<u8>, u64, u64) {
         .first()
         .unwrap_or(&Default::default());
     let reply = bench
-        .receive(2, &build::data(build::ours(4), data))
+        .receive(2, &build::data(build::ours(5), data))
         .unwrap();
     let at = ((bench.state.last - 1) % 64 * 2) as usize;
     assert_eq!(bench.journal[at] >> 32, bench.state.last);
@@ -82,7 +82,7 @@ fn ask(bench: &mut Bench, data: &[u8]) -> (Vec<u8>, u64, u64) {
 }
 
 /// The bytes before the request number: DATA, 25 bytes, handle 4 with its top bit.
-const START: &str = "00000009 00000019 8000000000000004";
+const START: &str = "00000009 00000019 8000000000000005";
 
 /// A request, the reply after its first 16 bytes, the code and place of its
 /// entry of kind 18, and w.
@@ -157,7 +157,7 @@ fn unknown_devices() {
     }
     assert_eq!(bench.state.devices, before);
     // A message that carries such a name is the longest that there is.
-    let message = build::data(build::ours(4), &build::device(10, 7, STATUS, &longest));
+    let message = build::data(build::ours(5), &build::device(10, 7, STATUS, &longest));
     assert_eq!(message.len(), 8 + wire::MAX_PAYLOAD);
 }
 
@@ -242,11 +242,11 @@ fn show_is_empty_and_others_reach_their_service() {
     let mut bench = with_devices(&device_list());
     let request = build::device(1, 7, STATUS, b"disk\0");
     assert_eq!(
-        show(&bench.state, 2, &build::data(build::ours(4), &request)),
+        show(&bench.state, 2, &build::data(build::ours(5), &request)),
         b""
     );
     assert_eq!(
-        show(&bench.state, 2, &build::data(build::ours(4), b"any")),
+        show(&bench.state, 2, &build::data(build::ours(5), b"any")),
         b""
     );
     // The same data for service 2 is a request of wrong length: kind 21, code 2.
@@ -312,6 +312,6 @@ fn on_two_channels() {
     let (reply, ..) = ask(&mut bench, &build::device(1, 7, STATUS, b"net\0"));
     assert_eq!(reply[28..32], hex("00000001"));
     // The handle of channel 2 is not one of channel 0.
-    let reply = bench.receive(0, &build::data(build::ours(4), &request));
-    assert_eq!(reply, Ok(build::nack(build::ours(4), 3)));
+    let reply = bench.receive(0, &build::data(build::ours(5), &request));
+    assert_eq!(reply, Ok(build::nack(build::ours(5), 3)));
 }

@@ -4,7 +4,7 @@ use independent::comparing::Tally;
 use independent::counts::Counts;
 use independent::device::service::{STATUS, UNCONFIGURE};
 use independent::generate::generate;
-use independent::lines::{answer, Feed, Line};
+use independent::lines::{Feed, Line};
 use independent::{build, memory, Pair};
 
 /// How many calls a text has that the generator counts.
@@ -34,8 +34,11 @@ fn the_same_for_the_same_seed() {
 fn counts_of_lines() {
     let mut counts = Counts::default();
     assert!(counts.zeros().contains(&"refusal 3 close".to_string()));
-    for line in ["close 9", "x", "drain 2", "receive 1 00"] {
-        counts.line(line.as_bytes(), &answer(line.as_bytes()));
+    let mut feed = Feed::default();
+    for line in ["setup", "close 9", "x", "drain 2", "receive 1 00"] {
+        let mut answer = Vec::new();
+        feed.piece(format!("{line}\n").as_bytes(), &mut answer);
+        counts.line(line.as_bytes(), &answer);
     }
     let zeros = counts.zeros();
     for name in [
@@ -46,7 +49,7 @@ fn counts_of_lines() {
     ] {
         assert!(!zeros.contains(&name.to_string()), "{name}");
     }
-    assert_eq!(counts.calls(), 3);
+    assert_eq!(counts.calls(), 4);
     counts.line(
         b"drain 2",
         b"drain accepted 1\nentry 0000000784030001 0000000000000009\n",
@@ -77,9 +80,9 @@ fn memory_list(messages: &[Vec<u8>]) -> String {
     let mut list = "setup 0 1 0 0 1\n".to_string();
     list += &receive(&build::init_req(1, 0));
     list += "offer 0 0\n";
-    list += &receive(&build::reg_ack(build::ours(2), 0));
+    list += &receive(&build::reg_ack(build::ours(3), 0));
     for message in messages {
-        list += &receive(&build::data(build::ours(2), message));
+        list += &receive(&build::data(build::ours(3), message));
     }
     list
 }
@@ -119,8 +122,8 @@ fn counts_of_numbers() {
     names.sort();
     assert_eq!(names, expected);
     // A second registration, whose first number is not above the first's.
-    let again = receive(&build::reg_ack(build::ours(11), 0))
-        + &receive(&build::data(build::ours(11), &cancel(0)));
+    let again = receive(&build::reg_ack(build::ours(12), 0))
+        + &receive(&build::data(build::ours(12), &cancel(0)));
     let list = list + "withdraw 0 0\noffer 0 0\n" + &again;
     let first = [
         "number first 0",
@@ -154,6 +157,100 @@ fn counts_of_repeats() {
     );
 }
 
+/// The same of several beginnings, in order.
+fn reached_of(list: &str, starts: &[&str]) -> Vec<String> {
+    let names = starts.iter().flat_map(|start| reached(list, start));
+    let mut names: Vec<String> = names.collect();
+    names.sort();
+    names
+}
+
+#[test]
+fn counts_of_the_empty_state() {
+    let list = "state\nclose 1\nsetup 1\nstate\ntake\njournal 127\nsetup\ndrain 2\nsetup 1\n\
+                journal 128\nsetup\nclose 1\nclose 9\n";
+    let starts = [
+        "refused 8",
+        "setup refused",
+        "state shown",
+        "refusal",
+        "block",
+    ];
+    let expected = [
+        "block list of 0",
+        "block list refused no whole blocks",
+        "refusal 1 setup",
+        "refusal 3 close",
+        "refusal 7 setup",
+        "refusal 8 close",
+        "refusal 8 drain",
+        "refusal 8 take",
+        "refused 8 after setup was refused 1 drain",
+        "refused 8 after setup was refused 7 take",
+        "refused 8 before a setup close",
+        "setup refused 1 before 7",
+        "setup refused 1 with good lists",
+        "state shown after a refused setup",
+        "state shown before a setup",
+    ];
+    assert_eq!(reached_of(list, &starts), expected);
+}
+
+#[test]
+fn counts_of_many_blocks() {
+    // 64 blocks of a page each, from 0 on, all configured.
+    let blocks: String = (0..64)
+        .map(|at| format!(" {} 1 0 0 1", at * 8192u64))
+        .collect();
+    let pair = |at: u64| Pair {
+        addr: at * 8192,
+        size: 8192,
+    };
+    let all: Vec<Pair> = (0..64).map(pair).collect();
+    let mut list = format!("setup{blocks}\n");
+    list += &receive(&build::init_req(1, 0));
+    list += "offer 0 0\n";
+    list += &receive(&build::reg_ack(build::ours(3), 0));
+    let request = |memory_type, number, pairs: &[Pair]| {
+        let request = build::request(memory_type, number, pairs);
+        receive(&build::data(build::ours(3), &request))
+    };
+    // The middle one is looked at first, the last one seventh.
+    let searched = list.clone() + &request(memory::QUERY, 1, &[pair(31), pair(63), pair(64)]);
+    let names = reached_of(&searched, &["search", "block list", "records"]);
+    let expected = [
+        "block list of 64",
+        "records in QUERY 2 to 15",
+        "search found after 1",
+        "search found after 7",
+        "search in vain after 7",
+    ];
+    assert_eq!(names, expected);
+    list += &request(memory::UNCONFIGURE, 2, &all);
+    list += &"work 1\n".repeat(20);
+    list += &request(memory::UNCONF_STATUS, 3, &[]);
+    list += &request(memory::CANCEL, 4, &[]);
+    list += "work 1\ndrain 256\n";
+    let starts = [
+        "removal",
+        "entry 1",
+        "STATUS at",
+        "records",
+        "result/status from",
+    ];
+    let expected = [
+        "STATUS at a record from 16 on open",
+        "entry 12 of 64 records",
+        "entry 15 code 0 of a block from 16 on",
+        "entry 15 code 0 of a record from 16 on",
+        "records in UNCONFIGURE 64",
+        "removal of 17 to 64 records CANCELLED from record 16 on",
+        "result/status from record 16 on 0/1",
+        "result/status from record 16 on 3/2",
+    ];
+    assert_eq!(reached_of(&list, &starts), expected);
+}
+
 #[test]
 fn counts_of_devices() {
     let lists = "device 1 1 1 6100\ndevice 1\nsetup x\nsetup\ndevice 1 2 0 00\nsetup\n";
@@ -170,14 +267,14 @@ fn counts_of_devices() {
     assert_eq!(names, expected);
     let mut list = "device 1 1 1 6100\nsetup\n".to_string() + &receive(&build::init_req(1, 0));
     list += "offer 0 1\n";
-    list += &receive(&build::reg_ack(build::ours(2), 0));
+    list += &receive(&build::reg_ack(build::ours(3), 0));
     for data in [
         build::device(1, 1, UNCONFIGURE, b"a\0"),
         build::device(1, 2, STATUS, b"a\0"),
         build::device(0, 1, STATUS, b"a"),
         vec![0; 5],
     ] {
-        list += &receive(&build::data(build::ours(2), &data));
+        list += &receive(&build::data(build::ours(3), &data));
     }
     list += "drain 256\n";
     for name in [
@@ -198,10 +295,10 @@ fn counts_of_devices() {
 fn counts_of_orders() {
     let mut list = "setup\n".to_string() + &receive(&build::init_req(1, 0));
     list += "offer 0 2\n";
-    list += &receive(&build::reg_ack(build::ours(2), 0));
-    let request = receive(&build::data(build::ours(2), &build::shutdown(1, 0)));
+    list += &receive(&build::reg_ack(build::ours(3), 0));
+    let request = receive(&build::data(build::ours(3), &build::shutdown(1, 0)));
     list += &format!("permit 1 1\npermit 2 1\n{request}{request}permit 2 0\n{request}");
-    list += &receive(&build::data(build::ours(2), &[0; 7]));
+    list += &receive(&build::data(build::ours(3), &[0; 7]));
     list += "withdraw 0 2\ntake\ntake\npermit 2 2\ntake 1\ndrain 256\n";
     for name in [
         "permit refused 1",

@@ -29,7 +29,7 @@ fn many(count: u8) -> Vec<u64> {
 }
 
 fn takes(list: &[u64]) -> bool {
-    match setup(&BLOCK_LIST, &[], list) {
+    match setup(&BLOCK_LIST, &[], list, &mut [0; 128]) {
         Ok(state) => {
             assert!(state.is_sound());
             assert_eq!(state.ids.count * 7, list.len());
@@ -125,9 +125,9 @@ fn lists_that_are_refused() {
         assert!(!takes(&apart), "{length}");
     }
     // Any of the three lists.
-    assert_eq!(setup(&[1], &[], &many(1)), Err(7));
-    assert_eq!(setup(&[], &[1], &many(1)), Err(7));
-    assert_eq!(setup(&[], &[], &[1]), Err(7));
+    assert_eq!(setup(&[1], &[], &many(1), &mut [0; 128]), Err(7));
+    assert_eq!(setup(&[], &[1], &many(1), &mut [0; 128]), Err(7));
+    assert_eq!(setup(&[], &[], &[1], &mut [0; 128]), Err(7));
 }
 
 /// Channel 2 ready with the ids 1 to 16 and eight registrations.
@@ -227,18 +227,19 @@ fn lines_give_the_list() {
          drain 256\n"
     );
     let expected = "setup accepted\nreceive accepted 00000001000000020000\n\
-         offer accepted 000000030000001380000000000000020001000064722d76696f00\n\
+         offer accepted 000000030000001380000000000000030001000064722d76696f00\n\
          receive accepted 000000040000000a000000000000000a0003\n\
          receive accepted 000000040000000a000000000000000b0000\n\
          channel 0 closed\nchannel 1 closed\nchannel 2 ready\n\
-         service 1 offered 9223372036854775810\npeer 0 registered 11 0\npeer 1 registered 10 3\n\
-         channel 3 closed\npermission 2 denied\npermission 3 denied\norder none\nentries 4\n\
+         service 1 offered 9223372036854775811\npeer 0 registered 11 0\npeer 1 registered 10 3\n\
+         channel 3 closed\npermission 2 denied\npermission 3 denied\norder none\nentries 5\n\
          show ab\nreceive accepted\nreceive accepted 0000000700000008000000000000000a\n\
-         receive accepted 00000002000000020001\ndrain accepted 7\n\
-         entry 000000010c000000 0000000000000000\nentry 0000000224800000 0000000000000000\n\
-         entry 00000003b4080003 000000000000000a\nentry 00000004b4000000 000000000000000b\n\
-         entry 00000005c4000000 0000000000000000\nentry 00000006bc000000 000000000000000a\n\
-         entry 000000071c000002 0000000000000000\n";
+         receive accepted 00000002000000020001\ndrain accepted 8\n\
+         entry 00000001f8000000 0000000000000000\n\
+         entry 000000020c000000 0000000000000000\nentry 0000000324800000 0000000000000000\n\
+         entry 00000004b4080003 000000000000000a\nentry 00000005b4000000 000000000000000b\n\
+         entry 00000006c4000000 0000000000000000\nentry 00000007bc000000 000000000000000a\n\
+         entry 000000081c000002 0000000000000000\n";
     assert_eq!(host(&list), expected);
     // The setup took the list: the next one has none.
     let again = format!(

@@ -146,7 +146,7 @@ fn a_new_registration_begins_anew() {
         |bench| assert!(bench.withdraw(2, 0).is_ok()),
         |bench| {
             assert!(bench
-                .receive(2, &build::of_handle(6, build::ours(2)))
+                .receive(2, &build::of_handle(6, build::ours(3)))
                 .is_ok())
         },
         |bench| assert!(bench.receive(2, &build::init_req(1, 0)).is_ok()),
@@ -203,9 +203,9 @@ fn only_its_own_reg_ack_begins_anew() {
 fn a_refused_call_moves_no_number() {
     let mut bench = Bench::with_memory();
     assert!(accepts(&mut bench, 1));
-    bench.out.truncate(671);
+    bench.out.truncate(2591);
     let before = bench.clone();
-    let cancel = build::data(build::ours(2), &build::request(memory::CANCEL, 5, &[]));
+    let cancel = build::data(build::ours(3), &build::request(memory::CANCEL, 5, &[]));
     assert_eq!(bench.receive(2, &cancel), Err(2));
     assert_eq!(bench, before);
     bench.out.push(0xee);
@@ -233,16 +233,16 @@ fn a_removal_keeps_its_number() {
 #[test]
 fn the_state_line_does_not_write_it() {
     let list = |number: u64| {
-        let cancel = build::data(build::ours(2), &build::request(memory::CANCEL, number, &[]));
+        let cancel = build::data(build::ours(3), &build::request(memory::CANCEL, number, &[]));
         let digits: String = cancel.iter().map(|byte| format!("{byte:02x}")).collect();
         format!(
-            "receive 2 000000000000000400010000\noffer 2 0\n\
-             receive 2 000000040000000a00000000000000020000\nreceive 2 {digits}\nstate\n"
+            "setup\nreceive 2 000000000000000400010000\noffer 2 0\n\
+             receive 2 000000040000000a80000000000000030000\nreceive 2 {digits}\nstate\n"
         )
     };
     let state = |number| {
         let answer = String::from_utf8(answer(list(number).as_bytes())).unwrap();
-        let lines: Vec<String> = answer.lines().skip(4).map(str::to_string).collect();
+        let lines: Vec<String> = answer.lines().skip(5).map(str::to_string).collect();
         lines
     };
     assert_eq!(state(1), state(2));

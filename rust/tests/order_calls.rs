@@ -22,10 +22,10 @@ fn shown(list: &str) -> Vec<String> {
     lines[from..].iter().map(|line| line.to_string()).collect()
 }
 
-/// Both services registered on channel 1, under handles 2 and 4, and permitted.
+/// Both services registered on channel 1, under handles 3 and 5, and permitted.
 fn permitted() -> String {
-    let mut list = receive(&build::init_req(1, 0));
-    for (service, handle) in [(2, 2), (3, 4)] {
+    let mut list = "setup\n".to_string() + &receive(&build::init_req(1, 0));
+    for (service, handle) in [(2, 3), (3, 5)] {
         list += &format!("offer 1 {service}\n");
         list += &receive(&build::reg_ack(build::ours(handle), 0));
     }
@@ -35,40 +35,41 @@ fn permitted() -> String {
 #[test]
 fn lines_and_their_answers() {
     let shutdown = receive(&build::data(
-        build::ours(2),
+        build::ours(3),
         &build::shutdown(1, 4_294_967_295),
     ));
-    let panic = receive(&build::data(build::ours(4), &build::panic(1)));
+    let panic = receive(&build::data(build::ours(5), &build::panic(1)));
     let calls = format!(
         "{}{shutdown}take\ntake\n{panic}take\npermit 1 1\n",
         permitted()
     );
     let text = host(&(calls + "permit 0x3 0\npermit 4 0\ndrain 256\n"));
-    let lines: Vec<&str> = text.lines().skip(5).collect();
+    let lines: Vec<&str> = text.lines().skip(6).collect();
     let expected = [
         "permit accepted",
         "permit accepted",
-        "receive accepted 00000009000000148000000000000002000000000000000100000000",
+        "receive accepted 00000009000000148000000000000003000000000000000100000000",
         "take accepted shutdown 4294967295",
         "take refused 6",
-        "receive accepted 00000009000000148000000000000004000000000000000100000000",
+        "receive accepted 00000009000000148000000000000005000000000000000100000000",
         "take accepted panic",
         "permit refused 3",
         "permit accepted",
         "permit refused 3",
-        "drain accepted 12",
-        "entry 000000010a000000 0000000000000000",
-        "entry 0000000223000000 0000000000000000",
-        "entry 000000032b000000 8000000000000002",
-        "entry 0000000423800000 0000000000000000",
-        "entry 000000052b800000 8000000000000004",
-        "entry 0000000699010000 0000000000000000",
-        "entry 0000000799810000 0000000000000000",
-        "entry 00000008ab000000 00000000ffffffff",
-        "entry 00000009a0000000 0000000000000000",
-        "entry 0000000aab800000 0000000000000000",
-        "entry 0000000ba0000000 0000000000000000",
-        "entry 0000000c99800000 0000000000000000",
+        "drain accepted 13",
+        "entry 00000001f8000000 0000000000000000",
+        "entry 000000020a000000 0000000000000000",
+        "entry 0000000323000000 0000000000000000",
+        "entry 000000042b000000 8000000000000003",
+        "entry 0000000523800000 0000000000000000",
+        "entry 000000062b800000 8000000000000005",
+        "entry 0000000799010000 0000000000000000",
+        "entry 0000000899810000 0000000000000000",
+        "entry 00000009ab000000 00000000ffffffff",
+        "entry 0000000aa0000000 0000000000000000",
+        "entry 0000000bab800000 0000000000000000",
+        "entry 0000000ca0000000 0000000000000000",
+        "entry 0000000d99800000 0000000000000000",
     ];
     assert_eq!(lines, expected);
 }
@@ -82,14 +83,14 @@ fn what_the_state_shows() {
     let state = |list: &str| shown(list)[..3].join(", ");
     let both = "permission 2 permitted, permission 3 permitted";
     assert_eq!(state(&list), format!("{both}, order none"));
-    let shutdown = receive(&build::data(build::ours(2), &build::shutdown(1, 12)));
+    let shutdown = receive(&build::data(build::ours(3), &build::shutdown(1, 12)));
     let left = format!("{list}{shutdown}");
     assert_eq!(state(&left), format!("{both}, order shutdown 12"));
     assert_eq!(
         state(&format!("{left}permit 2 0\nclose 1\n")),
         "permission 2 denied, permission 3 permitted, order shutdown 12"
     );
-    let panic = receive(&build::data(build::ours(4), &build::panic(1)));
+    let panic = receive(&build::data(build::ours(5), &build::panic(1)));
     let left = format!("{list}{panic}permit 3 0\n");
     assert_eq!(
         state(&left),
@@ -103,7 +104,13 @@ fn what_the_state_shows() {
     for again in ["setup\n", "setup 1\n"] {
         assert_eq!(shown(&format!("{left}{again}"))[..3], denied);
     }
-    assert_eq!(shown("permit 3 1\n")[3], "entries 1");
+    assert_eq!(shown("setup\npermit 3 1\n")[3], "entries 2");
+    // Before a setup nothing is permitted.
+    assert_eq!(
+        host("permit 3 1\ntake\n"),
+        "permit refused 8\ntake refused 8\n"
+    );
+    assert_eq!(shown("permit 3 1\n")[..3], denied);
 }
 
 #[test]
@@ -128,8 +135,9 @@ fn bad_lines() {
         "Take",
         " take",
     ] {
-        let expected = "bad line 1\npermit accepted\n";
-        assert_eq!(host(&format!("{line}\npermit 2 1")), expected, "{line}");
+        let expected = "setup accepted\nbad line 2\npermit accepted\n";
+        let list = format!("setup\n{line}\npermit 2 1");
+        assert_eq!(host(&list), expected, "{line}");
     }
     for line in [
         "permit 0x2 0x1",
@@ -137,10 +145,14 @@ fn bad_lines() {
         "permit 2 0x0",
         "permit 3 000",
     ] {
-        assert_eq!(host(line), "permit accepted\n");
+        let list = format!("setup\n{line}");
+        assert_eq!(host(&list), "setup accepted\npermit accepted\n");
     }
     // A service past 64 bits is a bad line; one in 64 bits is refused.
-    assert_eq!(host("permit 18446744073709551615 0"), "permit refused 3\n");
+    assert_eq!(
+        host("setup\npermit 18446744073709551615 0"),
+        "setup accepted\npermit refused 3\n"
+    );
 }
 
 /// The state before a refusal is the state after it, and no buffer changes.
@@ -162,7 +174,7 @@ fn refusals_in_order() {
     bench.state.held = 64;
     refused(&bench, 4, 4);
     assert_eq!(bench.clone().permit(1, true), Err(3));
-    bench.out.truncate(671);
+    bench.out.truncate(2591);
     refused(&bench, 2, 2);
     assert_eq!(bench.clone().permit(1, true), Err(2));
     bench.journal.truncate(127);
@@ -207,6 +219,7 @@ fn set_twice() {
     let codes: Vec<u64> = bench
         .drain()
         .iter()
+        .skip(1) // setup's own
         .map(|(first, _)| first & 0xffff_ffff)
         .collect();
     let entry = |service: u64, code: u64| 19 << 27 | service << 23 | code << 16;
@@ -246,6 +259,7 @@ fn a_delay_past_32_bits_is_unsound() {
             waiting: Some(Order::Shutdown { delay }),
             ..Default::default()
         },
+        last: 1,
         ..State::default()
     };
     for delay in [0, 1, 4_294_967_295] {

@@ -6,12 +6,12 @@ mod common;
 use common::*;
 use independent::{build, show, Order};
 
-/// Channel 1 ready, `domain-shutdown` registered there under handle 2 and
-/// `domain-panic` under handle 4; five entries are used.
+/// Channel 1 ready, `domain-shutdown` registered there under handle 3 and
+/// `domain-panic` under handle 5; six entries are used.
 fn with_orders() -> Bench {
     let mut bench = Bench::new(&BLOCK_LIST);
     bench.receive(1, &build::init_req(1, 0)).unwrap();
-    for (service, handle) in [(2, 2), (3, 4)] {
+    for (service, handle) in [(2, 3), (3, 5)] {
         bench.offer(1, service).unwrap();
         bench
             .receive(1, &build::reg_ack(build::ours(handle), 0))
@@ -45,37 +45,37 @@ use Step::{Ask, Permit, Take};
 #[rustfmt::skip]
 const BY_HAND: [Step; 25] = [
     // Denied until set.
-    Ask(2, "0000000000000001 000003e8", "00000009 0000001b 8000000000000002 0000000000000001 00000001 64656e69656400", [2, 1, 0]),
-    Ask(4, "0000000000000002", "00000009 0000001b 8000000000000004 0000000000000002 00000001 64656e69656400", [3, 1, 0]),
+    Ask(3, "0000000000000001 000003e8", "00000009 0000001b 8000000000000003 0000000000000001 00000001 64656e69656400", [2, 1, 0]),
+    Ask(5, "0000000000000002", "00000009 0000001b 8000000000000005 0000000000000002 00000001 64656e69656400", [3, 1, 0]),
     // One service permitted: the other stays denied.
     Permit(2, true),
-    Ask(4, "0000000000000002", "00000009 0000001b 8000000000000004 0000000000000002 00000001 64656e69656400", [3, 1, 0]),
-    Ask(2, "0000000000000003 000003e8", "00000009 00000014 8000000000000002 0000000000000003 00000000", [2, 0, 1_000]),
+    Ask(5, "0000000000000002", "00000009 0000001b 8000000000000005 0000000000000002 00000001 64656e69656400", [3, 1, 0]),
+    Ask(3, "0000000000000003 000003e8", "00000009 00000014 8000000000000003 0000000000000003 00000000", [2, 0, 1_000]),
     // A second one, and one of the other service, while the order waits.
-    Ask(2, "0000000000000003 000003e8", "00000009 0000001c 8000000000000002 0000000000000003 00000001 70656e64696e6700", [2, 1, 0]),
+    Ask(3, "0000000000000003 000003e8", "00000009 0000001c 8000000000000003 0000000000000003 00000001 70656e64696e6700", [2, 1, 0]),
     Permit(3, true),
-    Ask(4, "ffffffffffffffff", "00000009 0000001c 8000000000000004 ffffffffffffffff 00000001 70656e64696e6700", [3, 1, 0]),
+    Ask(5, "ffffffffffffffff", "00000009 0000001c 8000000000000005 ffffffffffffffff 00000001 70656e64696e6700", [3, 1, 0]),
     // Denied is tested before pending.
     Permit(2, false),
-    Ask(2, "0000000000000005 00000000", "00000009 0000001b 8000000000000002 0000000000000005 00000001 64656e69656400", [2, 1, 0]),
+    Ask(3, "0000000000000005 00000000", "00000009 0000001b 8000000000000003 0000000000000005 00000001 64656e69656400", [2, 1, 0]),
     // A wrong length before both.
-    Ask(2, "0000000000000005", "00000009 00000014 8000000000000002 0000000000000005 00000002", [2, 2, 0]),
-    Ask(4, "0000000000000005 000003e8", "00000009 00000014 8000000000000004 0000000000000005 00000002", [3, 2, 0]),
+    Ask(3, "0000000000000005", "00000009 00000014 8000000000000003 0000000000000005 00000002", [2, 2, 0]),
+    Ask(5, "0000000000000005 000003e8", "00000009 00000014 8000000000000005 0000000000000005 00000002", [3, 2, 0]),
     // Under 8 bytes the number is 0.
-    Ask(2, "05060708090a0b", "00000009 00000014 8000000000000002 0000000000000000 00000002", [2, 2, 0]),
-    Ask(4, "", "00000009 00000014 8000000000000004 0000000000000000 00000002", [3, 2, 0]),
+    Ask(3, "05060708090a0b", "00000009 00000014 8000000000000003 0000000000000000 00000002", [2, 2, 0]),
+    Ask(5, "", "00000009 00000014 8000000000000005 0000000000000000 00000002", [3, 2, 0]),
     // The order is as it was left, though its service is denied now.
     Take(Order::Shutdown { delay: 1_000 }),
     // Panic, and a request of each while it waits.
-    Ask(4, "0000000000000000", "00000009 00000014 8000000000000004 0000000000000000 00000000", [3, 0, 0]),
-    Ask(4, "0000000000000001", "00000009 0000001c 8000000000000004 0000000000000001 00000001 70656e64696e6700", [3, 1, 0]),
+    Ask(5, "0000000000000000", "00000009 00000014 8000000000000005 0000000000000000 00000000", [3, 0, 0]),
+    Ask(5, "0000000000000001", "00000009 0000001c 8000000000000005 0000000000000001 00000001 70656e64696e6700", [3, 1, 0]),
     Permit(2, true),
-    Ask(2, "0000000000000001 00000001", "00000009 0000001c 8000000000000002 0000000000000001 00000001 70656e64696e6700", [2, 1, 0]),
+    Ask(3, "0000000000000001 00000001", "00000009 0000001c 8000000000000003 0000000000000001 00000001 70656e64696e6700", [2, 1, 0]),
     Take(Order::Panic),
     // The shortest and the longest delay.
-    Ask(2, "0000000000000007 00000000", "00000009 00000014 8000000000000002 0000000000000007 00000000", [2, 0, 0]),
+    Ask(3, "0000000000000007 00000000", "00000009 00000014 8000000000000003 0000000000000007 00000000", [2, 0, 0]),
     Take(Order::Shutdown { delay: 0 }),
-    Ask(2, "0000000000000007 ffffffff", "00000009 00000014 8000000000000002 0000000000000007 00000000", [2, 0, 4_294_967_295]),
+    Ask(3, "0000000000000007 ffffffff", "00000009 00000014 8000000000000003 0000000000000007 00000000", [2, 0, 4_294_967_295]),
     Take(Order::Shutdown { delay: 4_294_967_295 }),
     Permit(3, false),
 ];
@@ -116,7 +116,7 @@ fn every_length() {
         &[0x77; 4_088 - 8], // the longest data that there is
     ];
     let long = long.concat();
-    for (number, service, right) in [(2, 2, 12), (4, 3, 8)] {
+    for (number, service, right) in [(3, 2, 12), (5, 3, 8)] {
         let handle = build::ours(number);
         for permitted in [false, true] {
             for length in (0..=40).chain([4_088]).filter(|length| *length != right) {
@@ -136,7 +136,7 @@ fn every_length() {
 
 #[test]
 fn orders_stay_when_services_end() {
-    for (number, data) in [(2, build::shutdown(1, 5)), (4, build::panic(1))] {
+    for (number, data) in [(3, build::shutdown(1, 5)), (5, build::panic(1))] {
         let handle = build::ours(number);
         let mut bench = with_orders();
         bench.permit(2, true).unwrap();
@@ -146,7 +146,7 @@ fn orders_stay_when_services_end() {
         assert!(left.waiting.is_some());
         bench.withdraw(1, 2).unwrap();
         bench
-            .receive(1, &build::of_handle(6, build::ours(4)))
+            .receive(1, &build::of_handle(6, build::ours(5)))
             .unwrap();
         bench.receive(1, &build::init_req(1, 0)).unwrap();
         bench.receive(1, &build::init_req(2, 0)).unwrap();
@@ -176,9 +176,9 @@ fn one_order_for_all_channels() {
     assert_eq!(reply[16..], hex("0000000000000009 00000000"));
     let first = 21 << 27 | 3 << 25 | 3 << 23;
     assert_eq!(last_entry(&bench), (first, 0));
-    let reply = bench.receive(1, &build::data(build::ours(2), &build::shutdown(8, 1)));
+    let reply = bench.receive(1, &build::data(build::ours(3), &build::shutdown(8, 1)));
     let pending = hex("0000000000000008 00000001 70656e64696e6700");
-    assert_eq!(reply, Ok(build::data(build::ours(2), &pending)));
+    assert_eq!(reply, Ok(build::data(build::ours(3), &pending)));
     // The handle of channel 3 is not one of channel 1.
     assert_eq!(bench.receive(1, &request), Ok(build::nack(elsewhere, 3)));
     assert_eq!(bench.take(), Ok(Order::Panic));
@@ -190,8 +190,8 @@ fn offered_is_not_registered() {
     bench.receive(0, &build::init_req(1, 0)).unwrap();
     bench.offer(0, 3).unwrap();
     bench.permit(3, true).unwrap();
-    let reply = bench.receive(0, &build::data(build::ours(2), &build::panic(1)));
-    assert_eq!(reply, Ok(build::nack(build::ours(2), 3)));
+    let reply = bench.receive(0, &build::data(build::ours(3), &build::panic(1)));
+    assert_eq!(reply, Ok(build::nack(build::ours(3), 3)));
     assert_eq!(bench.take(), Err(6));
 }
 

@@ -27,7 +27,9 @@ const LONG: &[u8] = b"abcdefghijklmnopqrstuvwxyz01234\0";
 /// Channels 1 and 2 ready, with these ids; two entries are used.
 fn with_ids(ids: &[u64]) -> Bench {
     let mut bench = Bench::new(&BLOCK_LIST);
-    bench.state.ids = independent::setup(&[], &[], ids).unwrap().ids;
+    bench.state.ids = independent::setup(&[], &[], ids, &mut [0; 128])
+        .unwrap()
+        .ids;
     bench.receive(1, &build::init_req(1, 0)).unwrap();
     bench.receive(2, &build::init_req(1, 0)).unwrap();
     bench
@@ -81,8 +83,8 @@ const BY_HAND: [Row; 17] = [
     ("00000003 00000010 0000000000000007 0002 0000 73707000", "00000005 00000012 0000000000000007 0000000000000001 0000", NOTED),
     ("00000003 0000000d 0000000000000007 0002 0000 00", "00000005 00000012 0000000000000007 0000000000000001 0000", NOTED),
     // A top bit, before the id and the version are looked at.
-    ("00000003 0000000f 8000000000000007 0002 0000 737000", "00000005 00000012 8000000000000007 0000000000000002 0000", NOTED),
-    ("00000003 0000000f 8000000000000007 0003 0000 737000", "00000005 00000012 8000000000000007 0000000000000002 0000", NOTED),
+    ("00000003 0000000f 8000000000000008 0002 0000 737000", "00000005 00000012 8000000000000008 0000000000000002 0000", NOTED),
+    ("00000003 0000000f 8000000000000008 0003 0000 737000", "00000005 00000012 8000000000000008 0000000000000002 0000", NOTED),
     ("00000003 0000000f ffffffffffffffff 0002 0000 737100", "00000005 00000012 ffffffffffffffff 0000000000000002 0000", NOTED),
     // The right major, with a lower minor: theirs.
     ("00000003 0000000f 0000000000000007 0002 0001 737000", "00000004 0000000a 0000000000000007 0001", acknowledged(0, 1, 7)),
@@ -150,8 +152,8 @@ fn without_ids_all_is_refused() {
     let mut bench = with_ids(&[]);
     let reply = bench.receive(2, &build::reg_req(5, 1, 0, b"sp\0"));
     assert_eq!(reply, Ok(build::reg_nack(5, 1, 0)));
-    let reply = bench.receive(2, &build::reg_req(build::ours(5), 1, 0, b"sp\0"));
-    assert_eq!(reply, Ok(build::reg_nack(build::ours(5), 2, 0)));
+    let reply = bench.receive(2, &build::reg_req(build::ours(6), 1, 0, b"sp\0"));
+    assert_eq!(reply, Ok(build::reg_nack(build::ours(6), 2, 0)));
     // An id of more than 32 bytes is well formed, and listed nowhere.
     let mut bench = with_ids(&id_list());
     for length in [33, 40, 1_024] {
@@ -164,13 +166,13 @@ fn without_ids_all_is_refused() {
     assert_eq!(registered(&bench, 2), []);
 }
 
-/// `sp` registered on channel 2 under 7, and `dr-mem` there under 5.
+/// `sp` registered on channel 2 under 7, and `dr-mem` there under 6.
 fn with_peer() -> Bench {
     let mut bench = with_ids(&id_list());
     bench.receive(2, &build::reg_req(7, 2, 3, b"sp\0")).unwrap();
-    bench.state.last = 4;
+    bench.state.last = 5;
     bench.offer(2, 0).unwrap();
-    let ours = build::ours(5);
+    let ours = build::ours(6);
     bench.receive(2, &build::reg_ack(ours, 0)).unwrap();
     bench
 }
@@ -191,7 +193,7 @@ fn unreg_of_its_handle() {
     assert_eq!(bench.receive(2, &unreg), Ok(nack));
     assert_eq!(last_words(&bench), (17 << 27 | 2 << 25, 6));
     // Our own service is there still.
-    assert_eq!(bench.state.channels[2].live(build::ours(5)), Some(0));
+    assert_eq!(bench.state.channels[2].live(build::ours(6)), Some(0));
 }
 
 #[test]
@@ -199,12 +201,12 @@ fn its_handle_is_not_one_of_ours() {
     let mut bench = with_peer();
     // The peer's handle is the number of our offer, without the top bit.
     bench
-        .receive(2, &build::reg_req(5, 1, 0, b"hypervisor\0"))
+        .receive(2, &build::reg_req(6, 1, 0, b"hypervisor\0"))
         .unwrap();
     let before = bench.state;
     for message in [
-        build::reg_ack(5, 0),
-        build::reg_nack(5, 1, 0),
+        build::reg_ack(6, 0),
+        build::reg_nack(6, 1, 0),
         build::reg_ack(7, 0),
         build::reg_nack(7, 1, 0),
         build::of_handle(wire::UNREG_ACK, 7),
@@ -217,23 +219,23 @@ fn its_handle_is_not_one_of_ours() {
         assert_eq!(bench.state.channels, before.channels);
     }
     // UNREG of either ends that one alone.
-    let unreg = build::of_handle(wire::UNREG, build::ours(5));
+    let unreg = build::of_handle(wire::UNREG, build::ours(6));
     let mut ended = bench.clone();
     assert_eq!(
         ended.receive(2, &unreg),
-        Ok(build::of_handle(7, build::ours(5)))
+        Ok(build::of_handle(7, build::ours(6)))
     );
     assert_eq!(last_words(&ended), (7 << 27 | 2 << 25, 0));
     assert_eq!(ended.state.peers, before.peers);
     assert_eq!(ended.state.channels[2].services[0], Service::Idle);
-    let unreg = build::of_handle(wire::UNREG, 5);
-    assert_eq!(bench.receive(2, &unreg), Ok(build::of_handle(7, 5)));
-    assert_eq!(last_words(&bench), (23 << 27 | 2 << 25, 5));
+    let unreg = build::of_handle(wire::UNREG, 6);
+    assert_eq!(bench.receive(2, &unreg), Ok(build::of_handle(7, 6)));
+    assert_eq!(last_words(&bench), (23 << 27 | 2 << 25, 6));
     assert_eq!(bench.state.channels, before.channels);
     assert_eq!(registered(&bench, 2), [(0, 7, 3)]);
     // Withdraw sends our own handle.
     let sent = bench.withdraw(2, 0);
-    assert_eq!(sent, Ok(hex("00000006 00000008 8000000000000005")));
+    assert_eq!(sent, Ok(hex("00000006 00000008 8000000000000006")));
 }
 
 #[test]
@@ -257,8 +259,8 @@ fn data_goes_to_the_host() {
     for channel in [0, 1, 3, 4, 1 << 32 | 2, u64::MAX] {
         assert_eq!(show(&bench.state, channel, &message), b"");
     }
-    let ours = build::data(build::ours(5), b"abc");
-    for handle in [0, 8, 7 | 1 << 32, build::ours(7)] {
+    let ours = build::data(build::ours(6), b"abc");
+    for handle in [0, 8, 7 | 1 << 32, build::ours(8)] {
         assert_eq!(show(&bench.state, 2, &build::data(handle, b"abc")), b"");
         let reply = bench.receive(2, &build::data(handle, b"abc"));
         assert_eq!(reply, Ok(build::nack(handle, 3)));
@@ -353,12 +355,12 @@ fn a_late_reply() {
     let mut bench = with_peer();
     let request = build::request(independent::memory::UNCONFIGURE, 9, &[A]);
     bench
-        .receive(2, &build::data(build::ours(5), &request))
+        .receive(2, &build::data(build::ours(6), &request))
         .unwrap();
-    assert_eq!(bench.state.removal.unwrap().handle, build::ours(5));
+    assert_eq!(bench.state.removal.unwrap().handle, build::ours(6));
     bench.work(4).unwrap();
     let (_, reply) = bench.work(1).unwrap();
-    assert_eq!(reply[8..16], hex("8000000000000005"));
+    assert_eq!(reply[8..16], hex("8000000000000006"));
 }
 
 /// Each cause of a duplicate comes before an id that is not listed and before
@@ -369,7 +371,7 @@ fn duplicates_are_tested_first() {
     let (peers, ids) = (&bench.state.peers[2], &bench.state.ids);
     for id in [b"sp\0".as_slice(), b"hypervisor\0", b"other\0", LONG] {
         for major in 0..4 {
-            for handle in [7, 8, build::ours(8)] {
+            for handle in [7, 8, build::ours(9)] {
                 let minor = 2;
                 let asked = wire::RegReq {
                     handle,

@@ -1,4 +1,6 @@
-//! The reader of saved entries: worked examples of each test of ticket 3.
+//! The reader of saved entries: worked examples of each test of ticket 3, in
+//! both editions of ticket 8. The entries stand here as an old journal has
+//! them; what is judged of them is judged in the new edition too.
 
 mod common;
 use common::BLOCK_LIST;
@@ -33,12 +35,36 @@ fn print(file: &[u8]) -> String {
     String::from_utf8(output(&read(file).unwrap())).unwrap()
 }
 
+/// Entries numbered from 1.
+fn numbered(entries: &[Entry]) -> Vec<[u64; 2]> {
+    let numbered = (1..).zip(entries);
+    numbered.map(|(at, entry)| words(at, *entry)).collect()
+}
+
 /// What it prints for entries numbered from 1, over the blocks A (4 pages), B
 /// (2), C (3, unconfigured) and D (2).
 fn print_entries(entries: &[Entry]) -> String {
-    let numbered = (1..).zip(entries);
-    let all: Vec<[u64; 2]> = numbered.map(|(at, entry)| words(at, *entry)).collect();
-    print(&file(&BLOCK_LIST, &all))
+    print(&file(&BLOCK_LIST, &numbered(entries)))
+}
+
+const MARK: Entry = [31, 0, 0, 0, 0, 0, 0];
+
+/// The new edition of an old journal's entry: a handle has the top bit, and the
+/// number after the mark; kind 15 has its record in w.
+fn new_edition(entry: &Entry) -> Entry {
+    let mut new = *entry;
+    match entry[0] {
+        5 | 9 => new[6] = (entry[6] ^ OURS).wrapping_add(1),
+        15 => (new[3], new[6]) = (0, entry[3] << 6 | entry[6]),
+        _ => {}
+    }
+    new
+}
+
+/// The new edition of an old journal: its mark, then the entries.
+fn new_journal(entries: &[Entry]) -> Vec<Entry> {
+    let mark = [MARK].into_iter();
+    mark.chain(entries.iter().map(new_edition)).collect()
 }
 
 /// Whether the last of the entries is good; those before it are.
@@ -52,39 +78,57 @@ fn last_is_good(entries: &[Entry]) -> bool {
     !bad
 }
 
+/// Whether the last entry is good, in both editions alike.
 fn is_good(before: &[Entry], last: Entry) -> bool {
-    last_is_good(&[before, &[last]].concat())
+    let all = [before, &[last]].concat();
+    let good = last_is_good(&all);
+    assert_eq!(last_is_good(&new_journal(&all)), good, "{all:?}");
+    good
 }
 
 const DAY: [[u64; 2]; 7] = [
     [0x0000_0001_0C00_0000, 0],
     [0x0000_0002_2400_0000, 0],
-    [0x0000_0003_2C00_0000, OURS | 2],
+    [0x0000_0003_2C00_0000, 2],
     [0x0000_0004_6400_0001, 9],
     [0x0000_0005_7400_0003, 0],
     [0x0000_0006_7C00_0001, 0],
     [0x0000_0007_8400_0001, 9],
 ];
 
+const NEW_DAY: [[u64; 2]; 8] = [
+    [0x0000_0001_F800_0000, 0],
+    [0x0000_0002_0C00_0000, 0],
+    [0x0000_0003_2400_0000, 0],
+    [0x0000_0004_2C00_0000, OURS | 3],
+    [0x0000_0005_6400_0001, 9],
+    [0x0000_0006_7400_0003, 0],
+    [0x0000_0007_7C00_0001, 0],
+    [0x0000_0008_8400_0001, 9],
+];
+
 #[test]
 fn the_day() {
-    let expected = "channel 0 closed\nchannel 1 closed\nchannel 2 ready\n\
-                    service 0 registered 9223372036854775810 0\nchannel 3 closed\nblock 0 unconfigured\n\
-                    block 1 configured\nentries 7\n";
-    assert_eq!(print(&file(&BLOCK_LIST[..10], &DAY)), expected);
+    let expected = |handle: &str, entries: u64| {
+        format!(
+            "channel 0 closed\nchannel 1 closed\nchannel 2 ready\n\
+             service 0 registered {handle} 0\nchannel 3 closed\nblock 0 unconfigured\n\
+             block 1 configured\nentries {entries}\n"
+        )
+    };
+    let blocks = &BLOCK_LIST[..10];
+    assert_eq!(print(&file(blocks, &DAY)), expected("2", 7));
+    let new = expected("9223372036854775811", 8);
+    assert_eq!(print(&file(blocks, &NEW_DAY)), new);
 }
 
 #[test]
 fn the_day_entry_by_entry() {
-    let registered = "ready\nservice 0 registered 9223372036854775810 0";
+    let registered = "ready\nservice 0 registered 2 0";
     for (count, channel, block) in [
         (0, "closed", "configured"),
         (1, "ready", "configured"),
-        (
-            2,
-            "ready\nservice 0 offered 9223372036854775810",
-            "configured",
-        ),
+        (2, "ready\nservice 0 offered 2", "configured"),
         (3, registered, "configured"),
         (4, registered, "configured"),
         (5, registered, "configured"),
@@ -95,6 +139,15 @@ fn the_day_entry_by_entry() {
              block 0 {block}\nblock 1 configured\nentries {count}\n"
         );
         assert_eq!(print(&file(&BLOCK_LIST[..10], &DAY[..count])), expected);
+        // The mark changes nothing but the count and the handle.
+        let new = expected
+            .replace("offered 2", "offered 9223372036854775811")
+            .replace("registered 2", "registered 9223372036854775811")
+            .replace(
+                &format!("entries {count}"),
+                &format!("entries {}", count + 1),
+            );
+        assert_eq!(print(&file(&BLOCK_LIST[..10], &NEW_DAY[..count + 1])), new);
     }
 }
 
@@ -102,9 +155,11 @@ fn the_day_entry_by_entry() {
 fn the_day_cut_at_every_length() {
     let whole = file(&BLOCK_LIST[..10], &DAY);
     assert_eq!(whole.len(), 8 + 80 + 7 * 16);
-    for length in 0..whole.len() {
-        let printed = print(&whole[..length]);
-        match length.checked_sub(88) {
+    let new = file(&BLOCK_LIST[..10], &NEW_DAY);
+    let old = (0..whole.len()).map(|length| &whole[..length]);
+    for cut in old.chain((0..new.len()).map(|length| &new[..length])) {
+        let printed = print(cut);
+        match cut.len().checked_sub(88) {
             None => assert_eq!(printed, "bad blocks\n"),
             Some(entries) if entries % 16 == 0 => {
                 assert!(printed.ends_with(&format!("\nentries {}\n", entries / 16)));
@@ -148,9 +203,18 @@ fn pieces_make_no_difference() {
 fn block_lists() {
     let closed = "channel 0 closed\nchannel 1 closed\nchannel 2 closed\nchannel 3 closed\n";
     assert_eq!(print(&[0; 8]), format!("{closed}entries 0\n"));
-    let many: Vec<u64> = (0..17).flat_map(|at| [at * 8192, 1, 0, 0, 1]).collect();
+    let many = many(65);
     assert!(print(&file(&many[..80], &[])).ends_with("block 15 configured\nentries 0\n"));
-    assert_eq!(print(&file(&many, &[])), "bad blocks\n");
+    let marked = numbered(&[MARK]);
+    for (blocks, journal) in [(16, &[][..]), (17, &marked), (63, &marked), (64, &marked)] {
+        let printed = print(&file(&many[..blocks * 5], journal));
+        let entries = journal.len();
+        let end = format!("block {} configured\nentries {entries}\n", blocks - 1);
+        assert!(printed.ends_with(&end));
+    }
+    // Over 64 blocks are bad at once, whatever follows.
+    assert_eq!(print(&file(&many, &marked)), "bad blocks\n");
+    assert_eq!(print(&326u64.to_be_bytes()), "bad blocks\n");
     for list in [
         &[1][..],
         &[0, 1, 0, 0],
@@ -190,11 +254,11 @@ fn numbers_from_1_without_gap() {
 const READY: Entry = [1, 2, 0, 0, 0, 0, 0];
 const CLOSED: Entry = [2, 2, 0, 0, 0, 0, 0];
 const OFFER: Entry = [4, 2, 0, 0, 0, 0, 0];
-const REGISTER: Entry = [5, 2, 0, 0, 0, 0, OURS | 2];
+const REGISTER: Entry = [5, 2, 0, 0, 0, 0, 2];
 const BEGIN: Entry = [12, 2, 0, 0, 0, 2, 9];
 /// `dr-vio`, offered as entry 4 and registered.
 const OFFER_1: Entry = [4, 2, 1, 0, 0, 0, 0];
-const REGISTER_1: Entry = [5, 2, 1, 0, 0, 0, OURS | 4];
+const REGISTER_1: Entry = [5, 2, 1, 0, 0, 0, 4];
 
 const MEMORY: [Entry; 3] = [READY, OFFER, REGISTER];
 const VIO: [Entry; 5] = [READY, OFFER, REGISTER, OFFER_1, REGISTER_1];
@@ -203,7 +267,7 @@ const REMOVAL: [Entry; 4] = [READY, OFFER, REGISTER, BEGIN];
 /// What stands before a good entry of a kind, the entry, and the fields that
 /// its kind names: c channel, s service, r record, o code, n count, w.
 #[rustfmt::skip]
-const KINDS: [(&[Entry], Entry, &str); 25] = [
+const KINDS: [(&[Entry], Entry, &str); 24] = [
     (&[], READY, "c"),
     (&MEMORY, [2, 2, 0, 0, 0, 0, 1], "cw"),
     (&[], [3, 2, 0, 0, 0, 3, 0], "cn"),
@@ -228,7 +292,6 @@ const KINDS: [(&[Entry], Entry, &str); 25] = [
     (&[], [22, 2, 0, 15, 0, 1, 77], "crnw"),
     (&[], [23, 2, 0, 0, 0, 0, 77], "cw"),
     (&[], [24, 2, 0, 0, 0, 0, 0], "c"),
-    (&[], [31, 0, 0, 0, 0, 0, 0], ""),
 ];
 
 #[test]
@@ -254,6 +317,11 @@ fn unknown_kinds() {
         assert!(!is_good(&MEMORY, [kind, 0, 0, 0, 0, 0, 0]));
         assert!(!is_good(&[], [kind, 0, 0, 0, 0, 0, 0]));
     }
+    // After entry 1 the mark is unknown, in both editions.
+    for before in [&[READY][..], &MEMORY, &REMOVAL] {
+        assert!(!is_good(before, MARK));
+    }
+    assert!(!last_is_good(&[MARK, MARK]));
 }
 
 #[test]
@@ -281,8 +349,8 @@ fn the_peers_handles() {
     let registered = [&MEMORY[..], &[peer]].concat();
     assert!(is_good(&registered, peer));
     assert!(is_good(&registered, [9, 2, 0, 0, 0, 0, 77]));
-    assert!(!is_good(&registered, [9, 2, 0, 0, 0, 0, OURS | 2]));
-    assert!(is_good(&registered, [9, 2, 0, 0, 0, 0, 2]));
+    assert!(!is_good(&registered, [9, 2, 0, 0, 0, 0, 2]));
+    assert!(is_good(&registered, [9, 2, 0, 0, 0, 0, OURS | 2]));
     assert!(!is_good(&[READY, OFFER, peer], [5, 2, 0, 0, 0, 0, 77]));
     assert!(is_good(&[READY, OFFER, peer], REGISTER));
 }
@@ -310,7 +378,7 @@ fn kind_10_names_its_service() {
     assert!(is_good(&VIO, answered(0)) && is_good(&VIO, answered(1)));
     assert!(!is_good(&VIO, answered(2)) && !is_good(&VIO, answered(3)));
     assert!(!is_good(&VIO[..4], answered(1)) && !is_good(&MEMORY, answered(1)));
-    let shutdown = [READY, [4, 2, 2, 0, 0, 0, 0], [5, 2, 2, 0, 0, 0, OURS | 2]];
+    let shutdown = [READY, [4, 2, 2, 0, 0, 0, 0], [5, 2, 2, 0, 0, 0, 2]];
     assert!(is_good(&shutdown, answered(2)) && !is_good(&shutdown, answered(0)));
 }
 
@@ -326,9 +394,9 @@ fn services() {
         assert!(!is_good(&offered, [5, 2, 0, 0, 0, 0, OURS | number]));
         assert!(!is_good(&offered, [5, 2, 0, 0, 0, 0, number]));
     }
-    assert!(!is_good(&offered, [5, 2, 0, 0, 0, 0, 2]));
+    assert!(!is_good(&offered, [5, 2, 0, 0, 0, 0, OURS | 2]));
     assert!(!is_good(&MEMORY, REGISTER));
-    assert!(!is_good(&offered, [5, 2, 1, 0, 0, 0, OURS | 2]));
+    assert!(!is_good(&offered, [5, 2, 1, 0, 0, 0, 2]));
     assert!(!is_good(&[READY], [5, 2, 0, 0, 0, 0, 0]));
     // 6: offered; 7: live; 8: registered.
     let ends = |kind| [kind, 2, 0, 0, 0, 0, 0];
@@ -345,26 +413,24 @@ fn services() {
         assert!(is_good(&REMOVAL, entry));
         assert!(!is_good(&kept, entry));
         assert!(!is_good(&[&kept[..], &[OFFER]].concat(), entry));
-        assert!(!is_good(
-            &[READY, OFFER_1, [5, 2, 1, 0, 0, 0, OURS | 2]],
-            entry
-        ));
+        assert!(!is_good(&[READY, OFFER_1, [5, 2, 1, 0, 0, 0, 2]], entry));
     }
     // 9: w not registered there.
     for (handle, good) in [
-        (OURS | 2, false),
-        (OURS | 4, false),
-        (OURS | 3, true),
-        (OURS | 2 | 1 << 32, true),
+        (2, false),
+        (4, false),
+        (3, true),
+        (2 | 1 << 32, true),
         (OURS, true),
-        (2, true),
+        (OURS | 2, true),
         (0, true),
+        (u64::MAX, true),
     ] {
         assert_eq!(is_good(&VIO, [9, 2, 0, 0, 0, 0, handle]), good);
     }
-    assert!(is_good(&offered, [9, 2, 0, 0, 0, 0, OURS | 2]));
+    assert!(is_good(&offered, [9, 2, 0, 0, 0, 0, 2]));
     let other = [READY, OFFER, REGISTER, [1, 3, 0, 0, 0, 0, 0]];
-    assert!(is_good(&other, [9, 3, 0, 0, 0, 0, OURS | 2]));
+    assert!(is_good(&other, [9, 3, 0, 0, 0, 0, 2]));
 }
 
 #[test]
@@ -477,18 +543,152 @@ fn registered_and_offered_lines() {
         READY,
         [4, 2, 3, 0, 0, 0, 0],
         [4, 2, 0, 0, 0, 0, 0],
-        [5, 2, 3, 0, 0, 0xffff, OURS | 2],
+        [5, 2, 3, 0, 0, 0xffff, 2],
         [1, 0, 0, 0, 0, 0, 0],
         [4, 0, 1, 0, 0, 0, 0],
         [2, 3, 0, 0, 0, 0, 1],
     ];
-    let expected = "channel 0 ready\nservice 1 offered 9223372036854775814\nchannel 1 closed\nchannel 2 ready\n\
-                    service 0 offered 9223372036854775811\n\
-                    service 3 registered 9223372036854775810 65535\nchannel 3 closed\n";
+    let expected = "channel 0 ready\nservice 1 offered 6\nchannel 1 closed\nchannel 2 ready\n\
+                    service 0 offered 3\nservice 3 registered 2 65535\nchannel 3 closed\n";
     assert!(print_entries(&entries).starts_with(expected));
+    let expected = "channel 0 ready\nservice 1 offered 9223372036854775815\nchannel 1 closed\nchannel 2 ready\n\
+                    service 0 offered 9223372036854775812\n\
+                    service 3 registered 9223372036854775811 65535\nchannel 3 closed\n";
+    assert!(print_entries(&new_journal(&entries)).starts_with(expected));
     // INIT_REQ on a ready channel leaves its services idle.
     let again = [&entries[..], &[READY]].concat();
     assert!(print_entries(&again).contains("channel 2 ready\nchannel 3 closed\n"));
+}
+
+/// So many blocks of a page each, all configured.
+fn many(count: u64) -> Vec<u64> {
+    let blocks = (0..count).map(|at| [at * 8192, 1, 0, 0, 1]);
+    blocks.flatten().collect()
+}
+
+#[test]
+fn the_mark() {
+    // It is known by its kind alone, and then bad for any other reason.
+    assert!(last_is_good(&[MARK]));
+    for field in 1..7 {
+        let greatest = [3, 3, 15, 7, 0xffff, u64::MAX][field - 1];
+        for value in [1, greatest, greatest - greatest / 2] {
+            let mut changed = MARK;
+            changed[field] = value;
+            assert!(!last_is_good(&[changed]));
+            // So a list of 64 blocks is not what is bad.
+            let journal = numbered(&[changed]);
+            assert_eq!(print(&file(&many(64), &journal)), "bad entry at 1\n");
+        }
+    }
+    for number in [0, 2, 1 << 31 | 1, 4_294_967_295] {
+        let journal = [words(number, MARK)];
+        assert_eq!(print(&file(&many(64), &journal)), "bad entry at 1\n");
+        assert_eq!(print(&file(&[], &journal)), "bad entry at 1\n");
+    }
+    // A journal of the mark alone shows what setup leaves.
+    let closed = "channel 0 closed\nchannel 1 closed\nchannel 2 closed\nchannel 3 closed\n";
+    let marked = print(&file(&[], &numbered(&[MARK])));
+    assert_eq!(marked, format!("{closed}entries 1\n"));
+    // An old journal that would be good after its mark is not.
+    assert!(!last_is_good(&[MARK, READY, OFFER, [5, 2, 0, 0, 0, 0, 3]]));
+    assert!(last_is_good(&[
+        MARK,
+        READY,
+        OFFER,
+        [5, 2, 0, 0, 0, 0, OURS | 3]
+    ]));
+    assert!(!last_is_good(&[READY, OFFER, [5, 2, 0, 0, 0, 0, OURS | 2]]));
+}
+
+#[test]
+fn seventeen_blocks_before_an_old_journal() {
+    for blocks in [17, 63, 64] {
+        let list = many(blocks);
+        let bad = |rest: &[u8]| {
+            let file = [&file(&list, &[]), rest].concat();
+            assert_eq!(print(&file), "bad blocks\n");
+        };
+        let bytes = |entries: &[Entry]| file(&[], &numbered(entries))[8..].to_vec();
+        // No entry, a cut one (a cut mark too), a good one, bad ones.
+        let mark = bytes(&[MARK]);
+        (0..16).for_each(|length| bad(&mark[..length]));
+        let ready = bytes(&[READY]);
+        (0..=16).for_each(|length| bad(&ready[..length]));
+        bad(&bytes(&[OFFER]));
+        bad(&bytes(&[[30, 0, 0, 0, 0, 0, 0]]));
+        bad(&bytes(&[READY, MARK]));
+        bad(&file(&[], &[[!(1 << 27), u64::MAX]])[8..]); // kind 30, all else set
+        bad(&file(&[], &[words(2, READY)])[8..]);
+        // It is known at the first entry: a later bad one does not matter.
+        bad(&bytes(&[READY, READY, OFFER, OFFER]));
+    }
+}
+
+/// Whether the last entry of a new journal over 64 blocks is good.
+fn good_of_64(entries: &[Entry]) -> bool {
+    let count = entries.len();
+    let printed = print(&file(&many(64), &numbered(entries)));
+    let bad = printed == format!("bad entry at {count}\n");
+    assert!(bad || printed.ends_with(&format!("\nentries {count}\n")));
+    !bad
+}
+
+#[test]
+fn kind_15_of_the_new_edition() {
+    let begun = new_journal(&REMOVAL);
+    let with = |entry: Entry| [&begun[..], &[entry]].concat();
+    let settled = |w: u64| [15, 2, 0, 0, 4, 0, w];
+    // The record field is unnamed, and so are the bits from 4,096 on.
+    assert!(last_is_good(&with(settled(3))));
+    for record in 1..16 {
+        assert!(!last_is_good(&with([15, 2, 0, record, 4, 0, 0])));
+    }
+    for bit in 12..64 {
+        assert!(!good_of_64(&with(settled(1 << bit))));
+    }
+    // The block by the six bits: listed or not.
+    for block in 0..64 {
+        assert_eq!(last_is_good(&with(settled(block))), block < 4);
+        assert!(good_of_64(&with(settled(block))));
+        assert!(!good_of_64(&with(settled(block | 64))));
+    }
+    // The record by the next six: the one at the position, up to 63.
+    let mut entries = begun.clone();
+    for record in 0..64 {
+        for other in (0..64).filter(|other| *other != record) {
+            let wrong = settled(other << 6 | 5);
+            assert!(!good_of_64(&[&entries[..], &[wrong]].concat()));
+        }
+        entries.push(settled(record << 6 | (63 - record)));
+        assert!(good_of_64(&entries));
+    }
+    for record in 0..64 {
+        let past = settled(record << 6);
+        assert!(!good_of_64(&[&entries[..], &[past]].concat()));
+    }
+    // Code 0 makes its block unconfigured; more pages than it has are bad.
+    let taken = with([15, 2, 0, 0, 0, 1, 40]);
+    let printed = print(&file(&many(64), &numbered(&taken)));
+    assert_eq!(printed.matches("unconfigured").count(), 1);
+    assert!(printed.contains("\nblock 40 unconfigured\n"));
+    assert!(!good_of_64(&with([15, 2, 0, 0, 0, 2, 40])));
+}
+
+#[test]
+fn kind_11_of_64_blocks() {
+    let memory = new_journal(&MEMORY);
+    let with = |w: u64| [&memory[..], &[[11, 2, 0, 0, 0, 0, w]]].concat();
+    assert!(good_of_64(&with(u64::MAX)));
+    for bit in 0..64 {
+        assert!(good_of_64(&with(1 << bit)));
+        assert_eq!(last_is_good(&with(1 << bit)), bit < 4);
+    }
+    let list: Vec<u64> = (0..64).flat_map(|at| [at * 8192, 1, 0, 0, 0]).collect();
+    let printed = print(&file(&list, &numbered(&with(1 << 63 | 1 << 16))));
+    assert_eq!(printed.matches("unconfigured").count(), 62);
+    assert!(printed.contains("\nblock 16 configured\n"));
+    assert!(printed.contains("\nblock 63 configured\n"));
 }
 
 /// A host, and the file of what it wrote since its setup.

@@ -71,6 +71,7 @@ impl Reading {
             22 => peers.add((first >> 19 & 15) as usize, second, count as u16),
             23 => peers.remove(peers.find(second).unwrap()),
             24 => assert_eq!(second, 0),
+            31 => assert_eq!([first, second], [1 << 32 | 31 << 27, 0]),
             kind => assert!([9, 10, 17].contains(&kind)),
         }
     }
@@ -92,9 +93,11 @@ impl Reading {
             13 => (*cancelled, *pages) = (true, 0),
             14 => *pages += count,
             _ => {
+                // The record at the position, and its block.
+                assert_eq!(second >> 6, *position);
                 (*position, *pages) = (*position + 1, 0);
                 if code == 0 {
-                    self.configured[second as usize] = false;
+                    self.configured[(second & 63) as usize] = false;
                 }
             }
         }
@@ -117,7 +120,11 @@ impl Follower {
         self.host.perform(call, &mut answer);
         let answer = String::from_utf8(answer).unwrap();
         if let Call::Setup(words) = call {
-            self.reading = Reading::of(&setup(words, &devices, &ids).unwrap_or_default());
+            let made = match answer.as_str() {
+                "setup accepted\n" => setup(words, &devices, &ids, &mut [0; 128]).unwrap(),
+                _ => State::default(),
+            };
+            self.reading = Reading::of(&made);
             (self.read, self.drained) = (0, 0);
         }
         for line in answer.lines().filter(|line| line.starts_with("entry ")) {
@@ -125,7 +132,8 @@ impl Follower {
             assert_eq!(u64::from_str_radix(&line[6..14], 16), Ok(self.drained));
         }
         let state = &self.host.state;
-        assert!(state.is_sound());
+        // Only the empty state has no entry.
+        assert_eq!(state.is_sound(), state.last > 0);
         assert_eq!(state.held, state.last - self.drained);
         while self.read < state.last {
             self.read += 1;

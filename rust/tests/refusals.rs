@@ -48,7 +48,7 @@ fn drain_gives(bench: &Bench, expected: Result<usize, u64>) {
 #[test]
 fn accepted_when_nothing_is_wrong() {
     each_gives(&with_removal(), 0);
-    drain_gives(&with_removal(), Ok(5));
+    drain_gives(&with_removal(), Ok(6));
 }
 
 #[test]
@@ -56,7 +56,7 @@ fn journals_that_are_not_128_words() {
     for words in [0, 127, 129, 200] {
         let mut bench = with_removal();
         bench.journal.resize(words, 0xdead);
-        bench.out.truncate(671);
+        bench.out.truncate(2591);
         each_gives(&bench, 1);
         drain_gives(&bench, Err(1));
     }
@@ -89,7 +89,7 @@ fn arguments_out_of_range() {
         tried.state.last = 64;
         tried.state.held = 64;
         assert_eq!(attempt(&mut tried), Some(3));
-        tried.out.truncate(671);
+        tried.out.truncate(2591);
         assert_eq!(attempt(&mut tried), Some(2));
     }
     assert!(bench.clone().work(65_535).is_ok());
@@ -177,27 +177,28 @@ const BAD: [&[u64]; 18] = [
 #[test]
 fn block_lists() {
     for list in GOOD {
-        assert!(setup(list, &[], &[]).is_ok(), "{list:?}");
+        assert!(setup(list, &[], &[], &mut [0; 128]).is_ok(), "{list:?}");
     }
     for list in BAD {
-        assert_eq!(setup(list, &[], &[]), Err(7), "{list:?}");
+        assert_eq!(setup(list, &[], &[], &mut [0; 128]), Err(7), "{list:?}");
     }
     let many =
         |count: u64| -> Vec<u64> { (0..count).flat_map(|at| [at * 8192, 1, 0, 0, 1]).collect() };
-    assert!(setup(&many(16), &[], &[]).is_ok());
-    assert_eq!(setup(&many(17), &[], &[]), Err(7));
+    assert!(setup(&many(64), &[], &[], &mut [0; 128]).is_ok());
+    assert_eq!(setup(&many(65), &[], &[], &mut [0; 128]), Err(7));
 }
 
 #[test]
 fn setup_leaves_everything_idle() {
-    let state = setup(&BLOCK_LIST, &[], &[]).unwrap();
+    let state = setup(&BLOCK_LIST, &[], &[], &mut [0; 128]).unwrap();
     assert_eq!(state.channels, [Channel::CLOSED; 4]);
     assert_eq!(
         (state.removal, state.last, state.held, state.blocks.count),
-        (None, 0, 0, 4)
+        (None, 1, 1, 4)
     );
     assert!(state.is_sound());
-    assert!(State::default().is_sound());
+    // The empty state is that of no setup.
+    assert!(!State::default().is_sound());
 }
 
 /// A change of a sound state that makes it unsound in one way.
@@ -207,8 +208,17 @@ fn removal(state: &mut State) -> &mut Removal {
     state.removal.as_mut().unwrap()
 }
 
-const SPOILS: [Spoil; 37] = [
-    |state| state.blocks.count = 17,
+/// A state without services, removal and entries held, after so many entries.
+fn empty_but_numbers(state: &mut State, last: u64) {
+    *state = State {
+        blocks: state.blocks,
+        last,
+        ..State::default()
+    };
+}
+
+const SPOILS: [Spoil; 39] = [
+    |state| state.blocks.count = 65,
     |state| state.blocks.count = usize::MAX,
     |state| state.blocks.list[3].base += 1,
     |state| state.blocks.list[3].pages = 0,
@@ -225,18 +235,18 @@ const SPOILS: [Spoil; 37] = [
     |state| state.channels[2].ready = false,
     |state| {
         state.channels[0].services[3] = Service::Offered {
-            handle: build::ours(1),
+            handle: build::ours(2),
         }
     },
     |state| {
         state.channels[2].services[3] = Service::Offered {
-            handle: build::ours(2),
+            handle: build::ours(3),
         }
     },
     |state| {
         state.channels[0] = Channel::READY;
         state.channels[0].services[1] = Service::Registered {
-            handle: build::ours(2),
+            handle: build::ours(3),
             minor: 0,
         };
     },
@@ -247,7 +257,7 @@ const SPOILS: [Spoil; 37] = [
     },
     |state| {
         state.channels[2].services[0] = Service::Offered {
-            handle: build::ours(6),
+            handle: build::ours(7),
         }
     },
     |state| {
@@ -255,17 +265,19 @@ const SPOILS: [Spoil; 37] = [
             handle: build::ours(1 << 32 | 2),
         }
     },
-    |state| state.channels[2].services[0] = Service::Offered { handle: 2 },
-    |state| removal(state).handle = 2,
+    |state| state.channels[2].services[0] = Service::Offered { handle: 3 },
+    |state| removal(state).handle = 3,
     |state| removal(state).handle = 0,
     |state| removal(state).handle = build::ours(1 << 32),
     |state| state.last = 4_294_967_296,
+    |state| (state.last, state.held) = (0, 0),
+    |state| empty_but_numbers(state, 0),
     |state| (state.last, state.held) = (1 << 40, 65),
-    |state| state.held = 6,
+    |state| state.held = 7,
     |state| removal(state).channel = 4,
-    |state| removal(state).handle = build::ours(6),
+    |state| removal(state).handle = build::ours(7),
     |state| removal(state).count = 0,
-    |state| (removal(state).count, removal(state).collected) = (17, 0),
+    |state| (removal(state).count, removal(state).collected) = (65, 0),
     |state| (removal(state).position, removal(state).collected) = (3, 0),
     |state| removal(state).collected = 4,
     |state| removal(state).position = 1, // C is not configured: 3 pages
@@ -275,11 +287,11 @@ const SPOILS: [Spoil; 37] = [
 
 #[test]
 fn unsound_states() {
-    let message = build::data(build::ours(3), b"abc");
+    let message = build::data(build::ours(4), b"abc");
     for (number, spoil) in SPOILS.iter().enumerate() {
         let mut bench = with_removal();
         bench.state.channels[2].services[2] = Service::Registered {
-            handle: build::ours(3),
+            handle: build::ours(4),
             minor: 0,
         };
         spoil(&mut bench.state);
@@ -330,7 +342,7 @@ fn made_states_that_are_sound() {
         |state| state.highest = [None; 4],
         |state| {
             state.channels[2].services[0] = Service::Registered {
-                handle: build::ours(5),
+                handle: build::ours(6),
                 minor: 9,
             }
         },

@@ -39,7 +39,7 @@ fn each_result_of_a_removal() {
     assert_eq!(bench.work(7), Ok((0, vec![])));
     assert_eq!(bench.last_entry(), (15, 0, 4, 0, 2));
     assert_eq!(bench.work(65_535), Ok((4, vec![])));
-    assert_eq!(bench.last_entry(), (15, 1, 0, 4, 0));
+    assert_eq!(bench.last_entry(), (15, 0, 0, 4, 1 << 6));
     let (pages, reply) = bench.work(1).unwrap();
     assert_eq!(
         (pages, results(&reply[16..])),
@@ -154,7 +154,7 @@ fn a_removal_goes_on_without_its_channel() {
         |bench| assert!(bench.withdraw(2, 0).is_ok()),
         |bench| {
             assert!(bench
-                .receive(2, &build::of_handle(6, build::ours(2)))
+                .receive(2, &build::of_handle(6, build::ours(3)))
                 .is_ok())
         },
     ];

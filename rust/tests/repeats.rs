@@ -14,8 +14,8 @@ fn configure_answers_a_repeat_nowork_until_a_failure() {
     assert_eq!(results(&reply)[5..], [(1, 0), (1, 2), (1, 0), (1, 2)]);
     // The one bit of the one block configured.
     assert_eq!(bench.last_entry(), (11, 0, 0, 0, 0b100));
-    let reply = bench.request(memory::CONFIGURE, &[C; 16]);
-    assert_eq!(results(&reply), [(4, 2); 16]);
+    let reply = bench.request(memory::CONFIGURE, &[C; 64]);
+    assert_eq!(results(&reply), [(4, 2); 64]);
     assert_eq!(bench.last_entry(), (10, 0, 0, 0, 10));
 }
 
@@ -37,16 +37,16 @@ fn a_removal_settles_a_repeat_nowork() {
     assert_eq!(bench.last_entry(), (12, 0, 0, 5, 9));
     assert_eq!(bench.work(3), Ok((3, vec![])));
     assert_eq!(bench.work(9), Ok((1, vec![])));
-    // Record, code, pages moved and block of each settled record.
+    // Code, pages moved, and in w record and block of each settled record.
     assert_eq!(bench.last_entry(), (15, 0, 0, 1, 0));
     assert_eq!(bench.work(9), Ok((0, vec![])));
-    assert_eq!(bench.last_entry(), (15, 1, 4, 0, 0));
+    assert_eq!(bench.last_entry(), (15, 0, 4, 0, 1 << 6));
     assert_eq!(bench.work(9), Ok((0, vec![])));
-    assert_eq!(bench.last_entry(), (15, 2, 4, 0, 2));
+    assert_eq!(bench.last_entry(), (15, 0, 4, 0, 2 << 6 | 2));
     assert_eq!(bench.work(9), Ok((2, vec![])));
-    assert_eq!(bench.last_entry(), (15, 3, 0, 2, 3));
+    assert_eq!(bench.last_entry(), (15, 0, 0, 2, 3 << 6 | 3));
     assert_eq!(bench.work(9), Ok((0, vec![])));
-    assert_eq!(bench.last_entry(), (15, 4, 4, 0, 0));
+    assert_eq!(bench.last_entry(), (15, 0, 4, 0, 4 << 6));
     let (pages, reply) = bench.work(9).unwrap();
     let all = vec![(0, 1), (4, 1), (4, 1), (0, 1), (4, 1)];
     assert_eq!((pages, results(&reply[16..])), (0, all));
@@ -54,15 +54,16 @@ fn a_removal_settles_a_repeat_nowork() {
 }
 
 #[test]
-fn sixteen_times_one_pair() {
+fn sixty_four_times_one_pair() {
     let mut bench = Bench::with_memory();
-    bench.unconfigure(&[D; 16]);
-    for _ in 0..16 {
+    bench.unconfigure(&[D; 64]);
+    for _ in 0..64 {
+        bench.drain();
         bench.work(2).unwrap();
         assert!(bench.state.is_sound());
     }
     let (_, reply) = bench.work(2).unwrap();
-    let mut all = [(4, 1); 16];
+    let mut all = [(4, 1); 64];
     all[0] = (0, 1);
     assert_eq!(results(&reply[16..]), all);
 }

@@ -70,7 +70,7 @@ pub fn call_proved(state: &mut Words, call: &Call, lent: &mut Lent) -> Answer {
         }
         Call::Show(channel, message) => answer(0, proved::show(state, *channel, message), 0),
         Call::Setup([blocks, devices, ids]) => {
-            answer(proved::setup(state, blocks, devices, ids), 0, 0)
+            answer(proved::setup(state, blocks, devices, ids, journal), 0, 0)
         }
         Call::Permit(service, permitted) => {
             proved::permit(state, *service, *permitted, journal, out).into()
@@ -107,7 +107,7 @@ pub fn call_independent(state: &mut State, call: &Call, lent: &mut Lent) -> Answ
             answer(0, independent::show(state, *channel, message).len(), 0)
         }
         Call::Setup([blocks, devices, ids]) => {
-            let made = independent::setup(blocks, devices, ids);
+            let made = independent::setup(blocks, devices, ids, journal);
             *state = made.unwrap_or_default();
             answer(made.err().unwrap_or(0), 0, 0)
         }

@@ -31,7 +31,7 @@ pub const CALLS: [(&str, &[usize]); 10] = [
     ("work", &[0, 1, 2, 3, 4, 5, 6, 8]),
     ("drain", &[0, 1, 8]),
     ("show", &[0]),
-    ("setup", &[0, 7]),
+    ("setup", &[0, 1, 7]),
     ("permit", &[0, 1, 2, 3, 4, 5, 8]),
     ("take", &[0, 1, 2, 4, 5, 6, 8]),
 ];
@@ -147,7 +147,7 @@ fn budget(random: &mut Random, state: &State) -> u64 {
 #[derive(Clone, PartialEq)]
 pub struct Lent {
     pub journal: [u64; 130],
-    pub output: [u8; 680],
+    pub output: [u8; 2_600],
     pub run: [u64; 132],
     pub journal_words: usize,
     pub output_bytes: usize,
@@ -162,7 +162,7 @@ impl Lent {
         let run_words = random.pick(&[any, any, held, below, held + 1, 0, 1, 127, 128]);
         let mut lent = Lent {
             journal: [0; 130],
-            output: [0; 680],
+            output: [0; 2_600],
             run: [0; 132],
             journal_words: JOURNAL_WORDS,
             output_bytes: OUTPUT_BYTES,
@@ -172,7 +172,7 @@ impl Lent {
             lent.journal_words = random.pick(&[127, 129, 0]);
         }
         if random.once_in(25) {
-            lent.output_bytes = random.pick(&[671, 671, 673, 0]);
+            lent.output_bytes = random.pick(&[2_591, 2_591, 2_593, 672, 0]);
         }
         lent.journal.fill_with(|| random.next());
         lent.run.fill_with(|| random.next());

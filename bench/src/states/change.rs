@@ -24,6 +24,7 @@ pub fn change(random: &mut Random, state: &mut State) {
             state.channels[channel].ready ^= true;
         }
         13 => last(random, state),
+        14 if random.once_in(3) => no_entry(state),
         14 => held(random, state),
         15 => state.removal = None,
         _ => removal(random, state),
@@ -126,6 +127,9 @@ fn block_count(random: &mut Random, state: &mut State) {
         count.saturating_sub(1),
         16,
         17,
+        64,
+        65,
+        66,
         1 << 32,
         usize::MAX,
     ]);
@@ -190,6 +194,17 @@ fn last(random: &mut Random, state: &mut State) {
     ]);
 }
 
+/// Last number 0, with nothing else that is not sound with it.
+fn no_entry(state: &mut State) {
+    (state.last, state.held) = (0, 0);
+    for channel in &mut state.channels {
+        channel.services = [Service::Idle; 4];
+    }
+    if let Some(removal) = &mut state.removal {
+        removal.handle = TOP_BIT;
+    }
+}
+
 fn held(random: &mut Random, state: &mut State) {
     let past = state.last.wrapping_add(1);
     let held = [0, 1, 63, 64, 65, 66, state.last, past, 1 << 32, u64::MAX];
@@ -232,9 +247,9 @@ fn places(random: &mut Random, removal: &mut Removal) {
     } = removal;
     if random.once_in(2) {
         let below = position.wrapping_sub(1);
-        *count = random.pick(&[0, 1, *position, below, 16, 17, 18, 1 << 32, usize::MAX]);
+        *count = random.pick(&[0, 1, *position, below, 17, 64, 65, 66, 1 << 32, usize::MAX]);
     } else {
         let (below, past) = (count.wrapping_sub(1), count.wrapping_add(1));
-        *position = random.pick(&[0, below, *count, past, 16, 17, 1 << 32, usize::MAX]);
+        *position = random.pick(&[0, below, *count, past, 17, 64, 65, 1 << 32, usize::MAX]);
     }
 }

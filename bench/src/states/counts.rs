@@ -4,10 +4,13 @@ use super::agents::Answer;
 use super::call::{Call, Lent, CALLS};
 use super::defects::{defect, DEFECTS};
 use super::spoil::SPOILT;
+use independent::block::BLOCK_WORDS;
 use independent::device::service::REPLY_BYTES;
-use independent::entry::{slot_word, KIND};
+use independent::entry::{slot_word, COUNT, KIND};
+use independent::memory::{QUERY_BYTES, RECORDS_START, RESULT_BYTES};
 use independent::order::service::{self, DENIED, PENDING};
 use independent::{wire, State};
+use std::collections::BTreeMap;
 
 /// The replies to requests of orders, as they are told.
 const REPLIES: [&str; 4] = ["success", "denied", "pending", "invalid message"];
@@ -24,6 +27,54 @@ const PEERS: [&str; 8] = [
     "data refused",
 ];
 
+/// What needs more than 16 blocks or records.
+const MORE: [&str; 9] = [
+    "a sound state of 17 to 64 blocks",
+    "a setup accepted of 17 to 64 blocks",
+    "a request of 17 to 64 records answered",
+    "a reply of 2,592 bytes",
+    "CONFIGURE of a block from 16 on",
+    "UNCONFIGURE of 17 to 64 records begun",
+    "a block from 16 on settled",
+    "a record from 16 on settled",
+    "a late reply of 17 to 64 records",
+];
+
+/// The places in MORE of what a call on a state met.
+fn more(state: &State, call: &Call, answer: Answer, lent: &Lent) -> Vec<usize> {
+    let mut met = Vec::new();
+    if state.is_sound() && state.blocks.count > 16 {
+        met.push(0);
+    }
+    if answer.refusal != 0 {
+        return met;
+    }
+    if let Call::Setup([blocks, ..]) = call {
+        if blocks.len() > 16 * BLOCK_WORDS {
+            met.push(1);
+        }
+    }
+    if !matches!(call, Call::Receive(..) | Call::Work(_)) {
+        return met;
+    }
+    let slot = slot_word(state.last + 1);
+    let (first, second) = (lent.journal[slot], lent.journal[slot + 1]);
+    let records = answer.length.saturating_sub(RECORDS_START);
+    let is_work = matches!(call, Call::Work(_));
+    let tests = [
+        (!is_work && records > 16 * QUERY_BYTES, 2),
+        (answer.length == 2_592, 3),
+        (KIND.of(first) == 11 && second >> 16 != 0, 4),
+        (KIND.of(first) == 12 && COUNT.of(first) > 16, 5),
+        (KIND.of(first) == 15 && second & 63 > 15, 6),
+        (KIND.of(first) == 15 && second >> 6 > 15, 7),
+        (is_work && records > 16 * RESULT_BYTES, 8),
+    ];
+    let reached = tests.iter().filter(|(reached, _)| *reached);
+    met.extend(reached.map(|(_, place)| *place));
+    met
+}
+
 /// How many states were sound and unsound, and the answers of each call by
 /// refusal number.
 #[derive(Default)]
@@ -31,8 +82,8 @@ pub struct Counts {
     sound: u64,
     unsound: u64,
     answers: [[u64; 9]; CALLS.len()],
-    /// The states that a defect of devices or orders makes unsound, by defect.
-    defects: [u64; DEFECTS.len()],
+    /// The states that a defect makes unsound, by defect.
+    defects: BTreeMap<&'static str, u64>,
     /// The states of which a word is spoilt, by what it is.
     spoilt: [u64; SPOILT.len()],
     /// The replies to device requests by result.
@@ -43,6 +94,8 @@ pub struct Counts {
     taken: [u64; 2],
     /// What was about the peer's services.
     peers: [u64; PEERS.len()],
+    /// What was about 17 to 64 blocks and records.
+    more: [u64; MORE.len()],
 }
 
 /// A state, and what is spoilt in its words.
@@ -93,8 +146,11 @@ impl Counts {
             true => self.sound += 1,
             false => self.unsound += 1,
         }
-        if let Some(place) = place(&DEFECTS, defect(state)) {
-            self.defects[place] += 1;
+        if let Some(defect) = defect(state) {
+            *self.defects.entry(defect).or_default() += 1;
+        }
+        for place in more(state, call, answer, lent) {
+            self.more[place] += 1;
         }
         if let Some(place) = place(&SPOILT, spoilt) {
             self.spoilt[place] += 1;
@@ -140,8 +196,8 @@ impl Counts {
             answers.iter().for_each(|count| print!("{count:>9}"));
             println!();
         }
-        for (name, count) in DEFECTS.iter().zip(self.defects) {
-            println!("states with {name}: {count}");
+        for name in DEFECTS {
+            println!("states with {name}: {}", self.defects_of(name));
         }
         for (name, count) in SPOILT.iter().zip(self.spoilt) {
             println!("states with {name}: {count}");
@@ -154,17 +210,29 @@ impl Counts {
         for (name, count) in PEERS.iter().zip(self.peers) {
             println!("of the peer, {name}: {count}");
         }
+        for (name, count) in MORE.iter().zip(self.more) {
+            println!("{name}: {count}");
+        }
+    }
+
+    /// The states that a defect makes unsound.
+    fn defects_of(&self, name: &str) -> u64 {
+        self.defects.get(name).copied().unwrap_or(0)
     }
 
     /// Whether each call had every answer that it can have; names what is
     /// missing.
     pub fn are_whole(&self) -> bool {
-        let defects = [&self.defects[..], &self.spoilt].concat();
-        let results = [&self.results[..], &self.replies, &self.taken, &self.peers].concat();
-        let mut whole = !defects.contains(&0) && !results.contains(&0);
+        let defects: Vec<u64> = DEFECTS.iter().map(|name| self.defects_of(name)).collect();
+        let defects = [&defects[..], &self.spoilt].concat();
+        let results = [&self.results[..], &self.replies, &self.taken].concat();
+        let others = [&self.peers[..], &self.more].concat();
+        let all = [defects, results, others].concat();
+        let mut whole = !all.contains(&0);
         if !whole {
             println!(
-                "a defect, a result of a request, an order or something of the peer never came"
+                "a defect, a result of a request, an order, something of the peer or of many \
+                 blocks never came"
             );
         }
         for ((name, possible), answers) in CALLS.iter().zip(&self.answers) {

@@ -1,13 +1,15 @@
-//! What breaks the rules of devices, orders, ids, registrations and the top
-//! bit of handles, for the counts.
+//! What breaks the rules of devices, orders, ids, registrations, the top bit of
+//! handles, and those of 64 blocks and records, for the counts.
 
+use independent::block::MAX_BLOCKS;
 use independent::device::{MAX_DEVICES, MAX_NAME};
 use independent::peer::{MAX_ID, MAX_IDS, MAX_PEERS};
+use independent::removal::MAX_RECORDS;
 use independent::state::TOP_BIT;
-use independent::{Device, Devices, Id, Ids, Peers, Service, State};
+use independent::{Blocks, Device, Devices, Id, Ids, Peers, Removal, Service, State};
 
 /// Every way to break the rules that the independent agent's form has.
-pub const DEFECTS: [&str; 25] = [
+pub const DEFECTS: [&str; 34] = [
     "33 devices",
     "more devices",
     "name of 0 bytes",
@@ -33,6 +35,15 @@ pub const DEFECTS: [&str; 25] = [
     "a registration's handle twice",
     "a registration's minor above the list's",
     "a handle of ours without the top bit",
+    "65 blocks",
+    "more blocks",
+    "a broken rule of a block up to 15",
+    "a broken rule of a block from 16 on",
+    "65 records",
+    "more records",
+    "a position past 17 to 64 records",
+    "wrong pages at a record from 16 on",
+    "last number 0",
 ];
 
 /// What is wrong with a device alone.
@@ -61,8 +72,61 @@ pub fn defect(state: &State) -> Option<&'static str> {
         let mut channels = state.channels.iter().zip(&state.peers);
         let peers =
             channels.find_map(|(channel, peers)| of_peers(peers, &state.ids, channel.ready));
-        peers.or_else(|| bare(state).then_some(DEFECTS[24]))
+        let peers = peers.or_else(|| bare(state).then_some(DEFECTS[24]));
+        let peers = peers.or_else(|| of_blocks(&state.blocks));
+        peers.or_else(|| of_removal_or_numbers(state))
     })
+}
+
+fn of_blocks(blocks: &Blocks) -> Option<&'static str> {
+    match blocks.count {
+        ..=MAX_BLOCKS => {}
+        65 => return Some(DEFECTS[25]),
+        _ => return Some(DEFECTS[26]),
+    }
+    let up_to = |count: &usize| Blocks {
+        count: *count,
+        list: blocks.list,
+    };
+    let mut counts = 1..=blocks.count;
+    let first = counts.find(|count| !up_to(count).keep_rules())?;
+    Some(DEFECTS[if first <= 16 { 27 } else { 28 }])
+}
+
+/// What is wrong with the removal's records, or that there is no entry, if
+/// nothing else is.
+fn of_removal_or_numbers(state: &State) -> Option<&'static str> {
+    let without = State {
+        removal: None,
+        ..*state
+    };
+    let numbered = State {
+        last: state.last.max(1),
+        ..*state
+    };
+    if state.last == 0 && numbered.is_sound() {
+        return Some(DEFECTS[33]);
+    }
+    let removal = state.removal.filter(|_| without.is_sound())?;
+    let emptied = Removal {
+        collected: 0,
+        ..removal
+    };
+    let emptied = State {
+        removal: Some(emptied),
+        ..*state
+    };
+    let tests = [
+        (removal.count == MAX_RECORDS + 1, 29),
+        (removal.count > MAX_RECORDS + 1, 30),
+        (removal.count > 16 && removal.position > removal.count, 31),
+        (
+            removal.position >= 16 && !state.is_sound() && emptied.is_sound(),
+            32,
+        ),
+    ];
+    let found = tests.iter().find(|(found, _)| *found);
+    found.map(|(_, defect)| DEFECTS[*defect])
 }
 
 /// Whether a handle of a live service or of the removal lacks the top bit.

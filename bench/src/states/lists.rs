@@ -4,7 +4,7 @@
 use super::change::change;
 use super::words::{fill_free, lists_of, words_of};
 use super::{make, peers};
-use independent::block::BLOCK_WORDS;
+use independent::block::{BLOCK_WORDS, PAGE};
 use independent::device::DEVICE_WORDS;
 use independent::generate::random::Random;
 use independent::peer::ID_WORDS;
@@ -20,8 +20,10 @@ pub fn any(random: &mut Random) -> [Vec<u64>; 3] {
         fill_free(&mut words, || random.next());
     }
     let [mut blocks, mut devices, mut ids] = lists_of(&words);
-    if random.once_in(20) {
-        cut(random, &mut blocks, BLOCK_WORDS);
+    match random.below(20) {
+        0 => cut(random, &mut blocks, BLOCK_WORDS),
+        1 => more_blocks(random, &mut blocks),
+        _ => {}
     }
     match random.below(12) {
         0 => cut(random, &mut devices, DEVICE_WORDS),
@@ -36,6 +38,18 @@ pub fn any(random: &mut Random) -> [Vec<u64>; 3] {
         _ => {}
     }
     [blocks, devices, ids]
+}
+
+/// Adds blocks of a page up to 63, 64, 65 or 66, each at the end before it.
+fn more_blocks(random: &mut Random, blocks: &mut Vec<u64>) {
+    let count = random.pick(&[63, 64, 65, 65, 66]);
+    while blocks.len() < count * BLOCK_WORDS {
+        let base = match blocks.last_chunk::<BLOCK_WORDS>() {
+            Some([base, pages, ..]) => base.wrapping_add(pages.wrapping_mul(PAGE)),
+            None => 0,
+        };
+        blocks.extend([base, 1, 0, 0, random.below(2)]);
+    }
 }
 
 /// Gives an id a version past 16 bits.

@@ -36,10 +36,10 @@ fn highest(random: &mut Random) -> Option<u64> {
 
 fn last(random: &mut Random) -> u64 {
     match random.below(10) {
-        0 => random.pick(&[0, 1, 2, 63, 64, 65]),
+        0 => random.pick(&[1, 1, 2, 63, 64, 65]),
         1 => random.pick(&[LAST_NUMBER - 1, LAST_NUMBER]),
         2..=4 => random.between(1, 200),
-        _ => random.up_to(LAST_NUMBER),
+        _ => random.between(1, LAST_NUMBER),
     }
 }
 
@@ -72,12 +72,13 @@ pub fn live_service(random: &mut Random, handle: u64) -> Service {
     Service::Registered { handle, minor }
 }
 
-/// Sixteen blocks that keep the rules, touching or apart, of which a random
+/// 64 blocks that keep the rules, touching or apart, of which a random
 /// number counts; the end of the last that counts may be 2^63. The blocks past
 /// the count stay, are 0, or are anything.
 fn blocks(random: &mut Random) -> Blocks {
     let any = random.up_to(MAX_BLOCKS as u64);
-    let count = random.pick(&[any, any, any, 0, 1, 16]) as usize;
+    let few = random.up_to(16);
+    let count = random.pick(&[any, any, few, few, 0, 1, 16, 64]) as usize;
     let mut list = [Block::default(); MAX_BLOCKS];
     let mut floor = random.pick(&[0, PAGE, 0x1000_0000, 0xffff_e000, 1 << 40]);
     let mut end = 0;
@@ -195,7 +196,8 @@ pub fn removal(random: &mut Random, state: &State) -> Removal {
     let own = state.channels[channel as usize].services[0].handle();
     let own = own.unwrap_or(any).min(last);
     let most = random.between(1, MAX_RECORDS as u64);
-    let count = random.pick(&[1, 2, 3, most, most, 16]);
+    let few = random.between(1, 16);
+    let count = random.pick(&[1, 2, 3, few, most, most, 16, 64]);
     let position = random.up_to(count);
     let position = random.pick(&[0, position, position, count]) as usize;
     let mut removal = Removal {

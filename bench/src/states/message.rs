@@ -176,10 +176,11 @@ fn memory_message(random: &mut Random, state: &State) -> Vec<u8> {
         return message;
     }
     let memory_type = random.pick(&WITH_PAIRS);
-    let most = random.between(1, 16);
+    let few = random.between(1, 16);
+    let most = random.between(1, 64);
     let count = match bad {
-        true => random.pick(&[0, 1, most, 16, 17]),
-        false => random.pick(&[1, 2, most, most, 16]),
+        true => random.pick(&[0, 1, few, most, 17, 64, 65]),
+        false => random.pick(&[1, 2, few, few, most, 16, 64]),
     };
     let pairs: Vec<_> = (0..count).map(|_| make::pair(random, state)).collect();
     if bad {

@@ -43,10 +43,10 @@ use Rattle.agent.proofs.drain.Reads as drain-reads
 use Rattle.agent.proofs.show.Kinds as show-kinds
 use Rattle.agent.proofs.show.Reads as show-reads
 
-pub setup-told : (κs : Lfts 3) (a : Dens κs setup-kinds.ps) (r : Started) (e : AtExit (endedOf 3 setup-kinds.ps setup-kinds.r) κs) → setup-reads.Learnt κs a r e → SetupPost (record { blocks = now (a .0); devices = now (a .1 .0); ids = now (a .1 .1 .0) }) r
+pub setup-told : (κs : Lfts 4) (a : Dens κs setup-kinds.ps) (r : Started) (e : AtExit (endedOf 4 setup-kinds.ps setup-kinds.r) κs) → setup-reads.Learnt κs a r e → SetupPost (record { blocks = now (a .0); devices = now (a .1 .0); ids = now (a .1 .1 .0) }) (now (a .1 .1 .1 .0)) r (now (e .1 .1 .1 .0))
 setup-told κs a r e p = p
 
-pub setup-asks : (κs : Lfts 3) (a : Dens κs setup-kinds.ps) → setup-reads.Asked κs a
+pub setup-asks : (κs : Lfts 4) (a : Dens κs setup-kinds.ps) → setup-reads.Asked κs a
 setup-asks κs a = tt
 
 pub offer-told : (κs : Lfts 3) (a : Dens κs offer-kinds.ps) (r : Answer) (e : AtExit (endedOf 3 offer-kinds.ps offer-kinds.r) κs) → offer-reads.Learnt κs a r e → OfferPost (now (a .0)) (now (a .1 .1 .1 .0)) (a .1 .0) (a .1 .1 .0) (now (a .1 .1 .1 .1 .0)) r (now (e .0)) (now (e .1 .1 .1 .0)) (now (e .1 .1 .1 .1 .0))

@@ -107,6 +107,7 @@ unfolding AllMeet
 all-meet none = tt
 all-meet (next d c cs) = (meets c, all-meet cs)
 
--- From a setup that is not refused, with a journal of any words: demand 3, and what the tickets claim of the same lists.
-pub lists-hold : (κs : Lfts 3) (a : Dens κs setup-kinds.ps) (r : Started) (e : AtExit (endedOf 3 setup-kinds.ps setup-kinds.r) κs) → setup-reads.Learnt κs a r e → r .refusal ≡ 0 → (j : List ℕ) (ds : List Done) → CalledAll (newRun (r .state) j) ds → ListHolds (record { blocks = now (a .0); devices = now (a .1 .0); ids = now (a .1 .1 .0) }) (r .state) j ds
-lists-hold κs a r e p z j ds t = model-proof.lists-hold (record { blocks = now (a .0); devices = now (a .1 .0); ids = now (a .1 .1 .0) }) r j ds p z (all-meet t)
+-- From a setup that is not refused, lent a journal of any words: demand 3, and what the tickets claim of the same lists. The first call is lent the journal that setup left.
+pub lists-hold : (κs : Lfts 4) (a : Dens κs setup-kinds.ps) (r : Started) (e : AtExit (endedOf 4 setup-kinds.ps setup-kinds.r) κs) → setup-reads.Learnt κs a r e → r .refusal ≡ 0 → (ds : List Done) → CalledAll (newRun (r .state) (now (e .1 .1 .1 .0))) ds → ListHolds (record { blocks = now (a .0); devices = now (a .1 .0); ids = now (a .1 .1 .0) }) (r .state) (now (e .1 .1 .1 .0)) ds
+lists-hold κs a r e p z ds t =
+    model-proof.lists-hold (record { blocks = now (a .0); devices = now (a .1 .0); ids = now (a .1 .1 .0) }) r (now (a .1 .1 .1 .0)) (now (e .1 .1 .1 .0)) ds p z (all-meet t)

@@ -1,5 +1,5 @@
-// The boundaries of 01. First those that no list of calls reaches, on states made by hand: the last entry number and each way in which a state is
-// not sound. Then the list of calls in this program's stdin.
+// The boundaries of 01 and 02. First those that no list of calls reaches: on states made by hand the last entry number and each way in which a state is
+// not sound, and what setup writes. Then the list of calls in this program's stdin.
 ghost use Prim.Native.Nat.{_<_};
 use calls::answers;
 use calls::answers::RUN_WORDS;
@@ -21,6 +21,7 @@ use model::DELAY_WORD;
 use model::DEVICE_CONFIGURED_PLACE;
 use model::DEVICE_COUNT_WORD;
 use model::DEVICE_WORDS;
+use model::ENTRY_WORDS;
 use model::FIRST_ADDRESS_WORD;
 use model::FIRST_BLOCK_WORD;
 use model::FIRST_DEVICE_WORD;
@@ -296,16 +297,27 @@ fn two_ids() -> [u64; 2 * ID_WORDS] {
     words
 }
 
-// A state of two blocks, the second unconfigured: channel 2 ready, service 0 registered under handle 2, service 1 under 3, service 2 offered under
-// 4; nine entries numbered and none held; a removal of the first block and then the second, under handle 2, just begun; two devices with id 1, `disk` configured
-// and `net0` busy; two ids, of which the peer has the first registered on channel 2 under its handle 5, with minor version 2.
-fn sound_state() -> State {
+// What setup makes of two blocks, the second unconfigured, of two devices with id 1, `disk` configured and `net0` busy, and of two ids; then with channel 2 ready,
+// the first id registered there by the peer under its handle 5, with minor version 2, and the mark no longer held.
+fn ready_state() -> State {
     let list = [0x10000000u64, 4, 0, 0, 1, 0x20000000, 2, 0, 0, 0];
     let devices = two_devices();
     let ids = two_ids();
-    let started = agent::setup(&list, &devices, &ids);
+    let mut journal = [WORD; JOURNAL_WORDS];
+    let started = agent::setup(&list, &devices, &ids, &mut journal);
     let mut state = started.state;
     state[2] = 1;
+    state[HELD_WORD] = 0;
+    state[PEER] = 1;
+    state[PEER_HANDLE] = 5;
+    state[PEER_MINOR] = 2;
+    state
+}
+
+// That state with service 0 registered on channel 2 under handle 2, service 1 under 3, service 2 offered under 4; nine entries numbered; a removal of the first
+// block and then the second, under handle 2, just begun.
+fn sound_state() -> State {
+    let mut state = ready_state();
     state[STAGE] = REGISTERED;
     state[HANDLE] = TOP_BIT + 2;
     state[STAGE + SERVICE_WORDS] = REGISTERED;
@@ -321,9 +333,6 @@ fn sound_state() -> State {
     state[FIRST_ADDRESS_WORD + 1] = 0x20000000;
     state[FIRST_SIZE_WORD] = 0x8000;
     state[FIRST_SIZE_WORD + 1] = 0x4000;
-    state[PEER] = 1;
-    state[PEER_HANDLE] = 5;
-    state[PEER_MINOR] = 2;
     state
 }
 
@@ -371,6 +380,9 @@ fn services(text: &mut Text, used: &mut usize) {
         text,
         used,
     );
+}
+
+fn handles(text: &mut Text, used: &mut usize) {
     changed(b"# a live handle 0\n", HANDLE, TOP_BIT, text, used);
     changed(
         b"# a live handle without the top bit\n",
@@ -395,20 +407,26 @@ fn services(text: &mut Text, used: &mut usize) {
     );
 }
 
-// A word that says nothing in this state may hold anything: a receive is accepted and its entry drained.
-fn unread(name: &[u8], at: usize, text: &mut Text, used: &mut usize)
-    requires { ⌜ at < stateWords ⌝ }
-{
-    let mut state = sound_state();
+// A sound state: a receive is accepted and its entry drained.
+fn sound(name: &[u8], before: &State, text: &mut Text, used: &mut usize) {
+    let mut state = *before;
     let mut journal = [0u64; JOURNAL_WORDS];
     let mut out = [0u8; OUTPUT_BYTES];
     let mut run = [0u64; RUN_WORDS];
-    state[at] = 18446744073709551615;
     output::put(text, used, name);
     let a = init(&mut state, &mut journal, &mut out);
     answers::answered(text, used, b"receive", a, &out);
     let b = agent::drain(&mut state, &journal, &mut run);
     answers::drained(text, used, b, &run);
+}
+
+// A word that says nothing in this state may hold anything.
+fn unread(name: &[u8], at: usize, text: &mut Text, used: &mut usize)
+    requires { ⌜ at < stateWords ⌝ }
+{
+    let mut state = sound_state();
+    state[at] = 18446744073709551615;
+    sound(name, &state, text, used);
 }
 
 fn unread_words(text: &mut Text, used: &mut usize) {
@@ -448,6 +466,9 @@ fn unread_words(text: &mut Text, used: &mut usize) {
         text,
         used,
     );
+}
+
+fn unread_devices(text: &mut Text, used: &mut usize) {
     unread(
         b"# a word after a device's name\n",
         DEVICE + NAME_PLACE + 1,
@@ -554,8 +575,8 @@ fn permanent_pages(text: &mut Text, used: &mut usize) {
     );
 }
 
-// A state of sixteen blocks of a page each, from 0 on.
-fn sixteen_blocks() -> State {
+// A state of sixty-four blocks of a page each, from 0 on.
+fn sixty_four_blocks() -> State {
     let mut state = [0u64; STATE_WORDS];
     let mut i: usize = 0;
     while i < MOST_BLOCKS {
@@ -566,13 +587,24 @@ fn sixteen_blocks() -> State {
     state
 }
 
-// A count of 17: the words after the sixteenth block, which are the last number and those after it, would make a seventeenth that keeps the rules.
-fn seventeen_blocks(text: &mut Text, used: &mut usize) {
-    let mut state = sixteen_blocks();
+// 64 blocks, and a count of 65: the words after the sixty-fourth block, which are the last number and those after it, would make a sixty-fifth that keeps the rules.
+fn sixty_five_blocks(text: &mut Text, used: &mut usize) {
+    let mut state = sixty_four_blocks();
+    state[BLOCK_COUNT_WORD] = MOST_BLOCKS as u64;
+    state[LAST_WORD] = 524288;
+    sound(b"# 64 blocks\n", &state, text, used);
     state[BLOCK_COUNT_WORD] = MOST_BLOCKS as u64 + 1;
-    state[LAST_WORD] = 131072;
     state[HELD_WORD] = 1;
-    output::put(text, used, b"# 17 blocks\n");
+    output::put(text, used, b"# 65 blocks\n");
+    each_call(&state, text, used);
+}
+
+// The last number 1, the mark's, and 0: nothing in the state needs a number.
+fn no_entry(text: &mut Text, used: &mut usize) {
+    let mut state = ready_state();
+    sound(b"# one entry numbered\n", &state, text, used);
+    output::put(text, used, b"# no entry numbered\n");
+    state[LAST_WORD] = 0;
     each_call(&state, text, used);
 }
 
@@ -727,6 +759,9 @@ fn ids(text: &mut Text, used: &mut usize) {
         text,
         used,
     );
+}
+
+fn id_bytes(text: &mut Text, used: &mut usize) {
     changed(
         b"# an id without its zero\n",
         ID + ID_PLACE,
@@ -779,6 +814,9 @@ fn peers(text: &mut Text, used: &mut usize) {
         text,
         used,
     );
+}
+
+fn peer_handles(text: &mut Text, used: &mut usize) {
     changed(
         b"# a peer's handle with the top bit\n",
         PEER_HANDLE,
@@ -835,12 +873,13 @@ fn registered(count: usize) -> State {
 
 // Eight peer registrations of a channel, and nine.
 fn most_peers(text: &mut Text, used: &mut usize) {
-    let mut journal = [0u64; JOURNAL_WORDS];
-    let mut out = [0u8; OUTPUT_BYTES];
-    let mut state = registered(8);
-    output::put(text, used, b"# eight peer registrations of a channel\n");
-    let a = init(&mut state, &mut journal, &mut out);
-    answers::answered(text, used, b"receive", a, &out);
+    let state = registered(8);
+    sound(
+        b"# eight peer registrations of a channel\n",
+        &state,
+        text,
+        used,
+    );
     output::put(text, used, b"# nine peer registrations of a channel\n");
     each_call(&registered(9), text, used);
 }
@@ -869,7 +908,7 @@ fn removals(text: &mut Text, used: &mut usize) {
     );
     changed(b"# a removal of 0 records\n", COUNT_WORD, 0, text, used);
     changed(
-        b"# a removal of 17 records\n",
+        b"# a removal of 65 records\n",
         COUNT_WORD,
         MOST_RECORDS as u64 + 1,
         text,
@@ -882,6 +921,9 @@ fn removals(text: &mut Text, used: &mut usize) {
         text,
         used,
     );
+}
+
+fn collected_pages(text: &mut Text, used: &mut usize) {
     changed(
         b"# all pages of the block collected\n",
         COLLECTED_WORD,
@@ -907,6 +949,10 @@ fn removals(text: &mut Text, used: &mut usize) {
         text,
         used,
     );
+}
+
+// A settled record of two; and a removal of 64 records at its last one, with all settled, at a position beyond them, and with its last result neither OK nor NOWORK.
+fn settled_records(text: &mut Text, used: &mut usize) {
     changed_two(
         b"# a settled record neither OK nor NOWORK\n",
         POSITION_WORD,
@@ -916,6 +962,24 @@ fn removals(text: &mut Text, used: &mut usize) {
         text,
         used,
     );
+    let mut state = sound_state();
+    state[COUNT_WORD] = MOST_RECORDS as u64;
+    state[POSITION_WORD] = 63;
+    sound(b"# a removal at record 63 of 64\n", &state, text, used);
+    state[POSITION_WORD] = 64;
+    sound(
+        b"# a removal of 64 records, all settled\n",
+        &state,
+        text,
+        used,
+    );
+    state[POSITION_WORD] = 65;
+    output::put(text, used, b"# a removal of 64 records at position 65\n");
+    each_call(&state, text, used);
+    state[POSITION_WORD] = 64;
+    state[FIRST_RESULT_WORD + 63] = 1;
+    output::put(text, used, b"# record 63 settled neither OK nor NOWORK\n");
+    each_call(&state, text, used);
 }
 
 // The last number used, with none held and with 64: 4 is tested before 5, and drain has neither.
@@ -959,10 +1023,68 @@ fn unsound_first(text: &mut Text, used: &mut usize) {
     output::put(
         text,
         used,
-        b"# an unsound state, 127 words of journal, 671 bytes of output, channel 4\n",
+        b"# an unsound state, 127 words of journal, 2591 bytes of output, channel 4\n",
     );
     let a = agent::close(&mut state, 4, &mut journal, &mut out);
     answers::answered(text, used, b"close", a, &out);
+}
+
+// A refused setup: its number and the empty state; it writes nothing.
+fn setup_refused(list: &[u64], journal: &mut [u64], text: &mut Text, used: &mut usize) {
+    let devices = two_devices();
+    let ids = two_ids();
+    let out = [0u8; OUTPUT_BYTES];
+    let started = agent::setup(list, &devices, &ids, journal);
+    let a = Answer {
+        refusal: started.refusal,
+        length: 0,
+    };
+    answers::answered(text, used, b"setup", a, &out);
+    if states_differ(&[0u64; STATE_WORDS], &started.state) {
+        output::put(text, used, b"the state is not empty\n");
+    }
+    if words_differ(journal) {
+        output::put(text, used, b"the journal has changed\n");
+    }
+}
+
+// 1 is tested before 7.
+fn refused_setups(text: &mut Text, used: &mut usize) {
+    let good = [0x10000000u64, 4, 0, 0, 1];
+    let bad = [0x10000000u64, 4, 0, 0, 2];
+    let mut short = [WORD; JOURNAL_WORDS - 1];
+    let mut long = [WORD; JOURNAL_WORDS + 1];
+    let mut journal = [WORD; JOURNAL_WORDS];
+    output::put(
+        text,
+        used,
+        b"# setup with 127 words of journal, then 129, a good list and a bad one; with 128, a bad one\n",
+    );
+    setup_refused(&good, &mut short, text, used);
+    setup_refused(&bad, &mut short, text, used);
+    setup_refused(&good, &mut long, text, used);
+    setup_refused(&bad, &mut long, text, used);
+    setup_refused(&bad, &mut journal, text, used);
+}
+
+// An accepted setup writes the mark alone, and holds it.
+fn accepted_setup(text: &mut Text, used: &mut usize) {
+    let list = [0x10000000u64, 4, 0, 0, 1];
+    let devices = two_devices();
+    let ids = two_ids();
+    let mut journal = [WORD; JOURNAL_WORDS];
+    let mut run = [WORD; RUN_WORDS];
+    output::put(text, used, b"# the mark alone\n");
+    let started = agent::setup(&list, &devices, &ids, &mut journal);
+    let mut state = started.state;
+    let a = agent::drain(&mut state, &journal, &mut run);
+    answers::drained(text, used, a, &run);
+    if words_differ(&journal[ENTRY_WORDS..]) {
+        output::put(text, used, b"another slot has changed\n");
+    }
+    if words_differ(&run[ENTRY_WORDS..]) {
+        output::put(text, used, b"the run has changed\n");
+    }
 }
 
 fn main() {
@@ -971,22 +1093,31 @@ fn main() {
     output::put(&mut text, &mut used, b"# the state as it is, sound\n");
     show(&sound_state(), &mut text, &mut used);
     services(&mut text, &mut used);
+    handles(&mut text, &mut used);
     unread_words(&mut text, &mut used);
+    unread_devices(&mut text, &mut used);
     unread_peers(&mut text, &mut used);
     places_of_blocks(&mut text, &mut used);
     permanent_pages(&mut text, &mut used);
-    seventeen_blocks(&mut text, &mut used);
+    sixty_five_blocks(&mut text, &mut used);
     counts(&mut text, &mut used);
+    no_entry(&mut text, &mut used);
     removals(&mut text, &mut used);
+    collected_pages(&mut text, &mut used);
+    settled_records(&mut text, &mut used);
     devices(&mut text, &mut used);
     names(&mut text, &mut used);
     orders(&mut text, &mut used);
     ids(&mut text, &mut used);
+    id_bytes(&mut text, &mut used);
     peers(&mut text, &mut used);
+    peer_handles(&mut text, &mut used);
     most_peers(&mut text, &mut used);
     last_number(&mut text, &mut used);
     last_number_but_one(&mut text, &mut used);
     unsound_first(&mut text, &mut used);
+    refused_setups(&mut text, &mut used);
+    accepted_setup(&mut text, &mut used);
     output::flush(&text, &mut used);
     calls::run();
 }

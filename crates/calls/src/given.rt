@@ -1,7 +1,7 @@
 // What `device` and `peer` lines give for the next setup: the words of a device list and how many devices it has, then the words of an id list and how many ids.
 ghost use Prim.Native.Nat.{_+_, _*_, _≤_};
 ghost use lib.ListN.{length};
-ghost use Rattle.model.specs.Layout.{deviceWords, idPlace, idWords, mostIdBytes, mostNameBytes, nameWords, wordBytes};
+ghost use Rattle.model.specs.Layout.{deviceWords, idWords, mostIdBytes, mostNameBytes, wordBytes};
 use model::BUSY_PLACE;
 use model::DEVICE_CONFIGURED_PLACE;
 use model::DEVICE_WORDS;

@@ -1,4 +1,5 @@
-// The list of calls on standard input, answered on standard output. Input and output go in pieces of up to 65,536 bytes.
+// The list of calls on standard input, answered on standard output. Input and output go in pieces of up to 65,536 bytes. Before a setup, and after a refused one, the
+// state is that of empty lists with no entry, which is not sound: each call is refused with 8.
 ghost use Rattle.io.specs.Counts.{Counts};
 use crate::answers;
 use crate::given;
@@ -91,7 +92,7 @@ fn call(
     if fields::same(name, b"setup") {
         let devices = given::words_of(given);
         let ids = given::id_words_of(given);
-        if !parsed::setup(rest, given, devices, ids, state, text, used) {
+        if !parsed::setup(rest, given, devices, ids, state, journal, text, used) {
             return false;
         }
         given::empty(given);

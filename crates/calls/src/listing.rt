@@ -162,15 +162,14 @@ fn put_removal(text: &mut Text, used: &mut usize, state: &State) {
     if !state::is_outstanding(state) {
         return;
     }
-    let removal = state::load_removal(state);
-    if removal.cancelled {
+    if removal_state::is_cancelled(state) {
         output::put(text, used, b"removal cancelled record");
     } else {
         output::put(text, used, b"removal open record");
     }
-    output::put_decimal(text, used, removal.position);
+    output::put_decimal(text, used, removal_state::position_of(state));
     output::put(text, used, b" pages");
-    output::put_decimal(text, used, removal.collected);
+    output::put_decimal(text, used, removal_state::collected_of(state));
     output::put_byte(text, used, b'\n');
 }
 

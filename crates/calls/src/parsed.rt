@@ -117,6 +117,7 @@ pub(crate) fn setup(
     device_words: usize,
     id_words: usize,
     state: &mut State,
+    journal: &mut [u64],
     text: &mut Text,
     used: &mut usize,
 ) -> bool {
@@ -128,7 +129,7 @@ pub(crate) fn setup(
     let devices = words_within(device_words, given);
     let listed = &given[words_within(FIRST_GIVEN_ID, given)..];
     let ids = words_within(id_words, listed);
-    let started = agent::setup(&list[..end], &given[..devices], &listed[..ids]);
+    let started = agent::setup(&list[..end], &given[..devices], &listed[..ids], journal);
     let made = started.state;
     *state = made;
     answers::started(text, used, started.refusal);

@@ -5,22 +5,21 @@ use model::DR_MEM_RES_OK;
 use model::Found;
 use model::Handled;
 use model::MEMORY_SERVICE;
-use model::MOST_RECORDS;
 use model::State;
 ghost use mathlib.Core.Path.{_≡_};
 ghost use Prim.Native.Nat.{_+_, _*_, _^_, _≤_, _<_};
 ghost use lib.ListN.{length};
 ghost use Rattle.model.specs.declared.Found.the-variants.{At};
-ghost use Rattle.model.specs.Layout.{blocksOf, memoryHeaderBytes, mostBlocks, mostRecords, outputBytes, pairBytes};
+ghost use Rattle.model.specs.Layout.{blocksOf, memoryHeaderBytes, mostBlocks, mostRecords, outputBytes, pairBytes, stateWords};
 ghost use Rattle.model.specs.Search.{BlocksInOrder};
 ghost use Rattle.model.specs.Memory.{configuredBy, answeringConfigure};
 ghost use Rattle.model.specs.Handler.{Handles};
-ghost use Rattle.configuration.specs.Progress.{bitsEnd, ConfiguresAt, ConfiguresOne, ConfiguresAll};
+ghost use Rattle.configuration.specs.Progress.{ConfiguresAt, ConfiguresOne, ConfiguresAll};
 
 // The bit of block `i`.
 fn bit(i: usize) -> u64
     requires { ⌜ i < mostBlocks ⌝ }
-    ensures { λ r. ⌜ (r ≡ 2 ^ i) × (r < bitsEnd) ⌝ }
+    ensures { λ r. ⌜ r ≡ 2 ^ i ⌝ }
 {
     1u64 << i
 }
@@ -33,7 +32,7 @@ struct OneDone {
 
 // "unconfigured gives OK (0) and configures, configured gives NOWORK (4)"
 fn configure_at(state: &mut State, i: usize) -> OneDone
-    requires { ⌜ (i < blocksOf (now state)) × BlocksInOrder (now state) ⌝ }
+    requires { ⌜ (i < blocksOf (now state)) × BlocksInOrder (now state) × (length (now state) ≡ stateWords) ⌝ }
     ensures { λ r. ⌜ ConfiguresAt (now (state .entry)) (At i) r (now (state .exit)) ⌝ }
 {
     if state::configured_of(state, i) != 0 {
@@ -51,7 +50,7 @@ fn configure_at(state: &mut State, i: usize) -> OneDone
 
 // "unknown gives FAILURE (1) and so does every record after it"
 fn configure_one(state: &mut State, failed: bool, addr: u64, size: u64) -> OneDone
-    requires { ⌜ BlocksInOrder (now state) ⌝ }
+    requires { ⌜ BlocksInOrder (now state) × (length (now state) ≡ stateWords) ⌝ }
     ensures { λ r. ⌜ ConfiguresOne (now (state .entry)) failed addr size r (now (state .exit)) ⌝ }
 {
     if failed {
@@ -70,32 +69,26 @@ fn configure_one(state: &mut State, failed: bool, addr: u64, size: u64) -> OneDo
     }
 }
 
-// CONFIGURE: the bits of the blocks configured, and each record's result.
-struct AllDone {
-    mask: u64,
-    result: [u64; MOST_RECORDS],
-}
-
-// "CONFIGURE: in order"
-fn configure_all(state: &mut State, b: &[u8], n: usize) -> AllDone
-    requires { ⌜ (n ≤ mostRecords) × (length (now b) ≡ memoryHeaderBytes + n * pairBytes) × BlocksInOrder (now state) ⌝ }
-    ensures { λ r. ⌜ ConfiguresAll (now (state .entry)) (now (b .entry)) n r (now (state .exit)) ⌝ }
+// "CONFIGURE: in order": the bits of the blocks configured. Each record is told after it is handled, with its block's status by then: a block that a record names is not
+// unconfigured after it, and after a failure none changes, so that is the status after the request.
+fn configure_all(state: &mut State, b: &[u8], n: usize, out: &mut [u8]) -> u64
+    requires { ⌜ (n ≤ mostRecords) × (length (now b) ≡ memoryHeaderBytes + n * pairBytes) × BlocksInOrder (now state) × (outputBytes ≤ length (now out)) ⌝ }
+    ensures { λ r. ⌜ ConfiguresAll (now (state .entry)) (now (b .entry)) n (now (out .entry)) r (now (state .exit)) (now (out .exit)) ⌝ }
 {
+    state::word_count(state);
     let mut mask: u64 = 0;
     let mut failed = false;
-    let mut result = [0u64; MOST_RECORDS];
     let mut i: usize = 0;
     while i < n {
-        let step = configure_one(state, failed, requests::address(b, i), requests::size(b, i));
+        let addr = requests::address(b, i);
+        let size = requests::size(b, i);
+        let step = configure_one(state, failed, addr, size);
+        records::put_result(state, out, i, addr, size, step.result);
         mask += step.bit;
         failed = step.result == DR_MEM_RES_FAILURE;
-        result[i] = step.result;
         i += 1;
     }
-    AllDone {
-        mask: mask,
-        result: result,
-    }
+    mask
 }
 
 // CONFIGURE while none is: kind 11 where a block was configured, else kind 10.
@@ -111,12 +104,9 @@ pub fn configure(
     requires { ⌜ BlocksInOrder (now state) × (n ≤ mostRecords) × (length (now b) ≡ memoryHeaderBytes + n * pairBytes) × (outputBytes ≤ length (now out)) ⌝ }
     ensures { λ r. ⌜ Handles (answeringConfigure (configuredBy (now (state .entry)) (now (b .entry)) n) channel handle request (now (b .entry)) n) (now (out .entry)) (r .length) (r .event) (now (state .exit)) (now (out .exit)) ⌝ }
 {
-    let done = configure_all(state, b, n);
-    let result = done.result;
-    let address = requests::addresses(b, n);
-    let size = requests::sizes(b, n);
-    let length = records::put_results(state, handle, request, address, size, result, n, out);
-    if done.mask == 0 {
+    let length = records::put_results_header(out, handle, request, n);
+    let mask = configure_all(state, b, n, out);
+    if mask == 0 {
         return Handled {
             length: length,
             event: events::answered(channel, MEMORY_SERVICE as u64, events::CODE_NONE, request),
@@ -124,6 +114,6 @@ pub fn configure(
     }
     Handled {
         length: length,
-        event: events::configured(channel, done.mask),
+        event: events::configured(channel, mask),
     }
 }

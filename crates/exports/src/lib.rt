@@ -19,17 +19,18 @@ ghost use Rattle.model.specs.Calls.{shown};
 ghost use lib.ListN.{length, take, drop};
 ghost use mathlib.Core.Path.{_≡_};
 
-// The state is written: that of the lists, or that of empty lists where 7 is returned.
+// The state is written: that of the lists with the edition mark as its one entry, or, where 1 or 7 is returned, that of empty lists.
 #[no_mangle]
 pub extern "C" fn arkelutz_setup(
     state: &mut State,
     blocks: &[u64],
     devices: &[u64],
     ids: &[u64],
+    journal: &mut [u64],
 ) -> u64
-    ensures { λ r. ⌜ SetupPost (record { blocks = now (blocks .entry); devices = now (devices .entry); ids = now (ids .entry) }) (record { refusal = r; state = now (state .exit) }) ⌝ }
+    ensures { λ r. ⌜ SetupPost (record { blocks = now (blocks .entry); devices = now (devices .entry); ids = now (ids .entry) }) (now (journal .entry)) (record { refusal = r; state = now (state .exit) }) (now (journal .exit)) ⌝ }
 {
-    let started = agent::setup(blocks, devices, ids);
+    let started = agent::setup(blocks, devices, ids, journal);
     let words = started.state;
     *state = words;
     started.refusal

@@ -1,38 +1,37 @@
 -- A removal's numbers, the fields of STATUS's record, and what each answer does, from what its parts do.
 -- Assumes nothing.
-use mathlib.Core.Path.{_≡_, refl, sym, ap, _∙_, subst}
+use mathlib.Core.Path.{_≡_, refl, sym, _∙_, subst}
 use mathlib.Core.Bool.{Bool, true, false, not}
 use mathlib.Core.List.{List, []}
 use Prim.Native.Nat.{ℕ, _+_, _*_, _<_, _≤_}
 use native.Mathlib.Omega.{arith}
-use lib.ListN.{length, getD, replicate, getD-replicate}
+use lib.ListN.{length, getD}
 use lib.Seq.{sets}
 use borrow.Author.Tests.{lt-ltb, le-ltb, eqb-true, ltb-true}
 use Rattle.wire.specs.BigEndian.{bytesOf, written}
 use Rattle.wire.proofs.Laws.{sets-whole}
-use Rattle.model.specs.Choice.{pick, _and_, tabulate}
+use Rattle.model.specs.Choice.{pick, _and_, joined}
 use Rattle.model.specs.declared.Event.{Event}
 use Rattle.model.specs.declared.Found.{Found}
 use Rattle.model.specs.declared.Found.the-variants.{At, Nowhere}
 use Rattle.model.specs.declared.Removal.{Removal}
 use Rattle.model.specs.declared.Request.{Request}
 use Rattle.model.specs.declared.Request.the-variants.{Configure, Unconfigure, Query, Status, Cancel, Malformed}
-use Rattle.model.specs.Layout.{memoryService, removalOf, isSet, memoryHeaderBytes, mostRecords, outputBytes, outstandingOf, pairBytes, replyHeaderBytes, statusBytes, withNumber, withRemoval}
+use Rattle.model.specs.Layout.{memoryService, collectedWord, countWord, firstSizeWord, positionWord, removalOf, isSet, memoryHeaderBytes, mostRecords, outputBytes, outstandingOf, pairBytes, replyHeaderBytes, resultBytes, statusBytes, withNumber, withRemoval}
 use Rattle.model.specs.Blocks.{namedBlock, mostPages, pageSize}
 use Rattle.model.specs.State.{sound, collectedSound, removalRoom, roomAt, roomOf}
-use Rattle.model.specs.Journal.{codeNone, answeredEvent, cancelledEvent, codeBlocked, stored, begunEvent}
+use Rattle.model.specs.Journal.{codeNone, answeredEvent, cancelledEvent, codeBlocked}
 use Rattle.model.specs.Messages.{effect}
-use Rattle.model.specs.Memory.{DR-MEM-OK, DR-MEM-RES-BLOCKED, addrIn, answering, answeredMemory, answeringError, requestNumber, requested, rightForm, rises, argumentOf, blocked, cancelling, hasRecords, marked, memoryReply, reporting, requestOf, resultRecord, sizeIn, statusRecord, beginning, newRemoval}
-use Rattle.model.specs.Handler.{Handles, HandlesSilently}
-use Rattle.model.proofs.Choice.{on-pick, both, and-false, and-false-right, joined-same}
+use Rattle.model.specs.Memory.{DR-MEM-OK, DR-MEM-RES-BLOCKED, addrIn, answering, answeredMemory, answeringError, requestNumber, requested, rightForm, rises, argumentOf, blocked, cancelling, hasRecords, marked, memoryReply, reporting, requestOf, resultRecord, sizeIn, statusRecord}
+use Rattle.model.specs.Handler.{Handles}
+use Rattle.model.proofs.Choice.{on-pick, both, and-false, and-false-right}
 use Rattle.model.proofs.Rules.{sound-facts, sound-block}
 use Rattle.model.proofs.Sounds.{named-less}
-use Rattle.model.proofs.Replies.{memory-length, status-length}
+use Rattle.model.proofs.Replies.{memory-length, result-length, status-length}
+use Rattle.removal_state.proofs.Laws.{collected-is, count-is, position-is, size-is}
 use Rattle.requests.proofs.Laws.{counted}
 use Rattle.records.specs.Header.{memoryHeader}
-use Rattle.records.specs.Results.{ResultsWritten}
-use Rattle.records.proofs.Parts.{reply-length, reply-stored}
-use Rattle.configuration.proofs.Laws.{pairs-same}
+use Rattle.records.proofs.Parts.{reply-length, reply-stored, results-stored}
 
 -- A sound removal's numbers.
 collected-fits : (collected room : ℕ) → collectedSound collected room ≡ true → collected ≤ room
@@ -57,29 +56,35 @@ removal-room-fits : (s : List ℕ) (m : Removal) → sound s ≡ true → remova
 unfolding removalRoom
 removal-room-fits s m e = on-pick (λ (n : ℕ). n ≤ mostPages) _ _ _ (λ _. room-fits s _ _ e) (λ _. omega arith)
 
-pub removal-fits : (s : List ℕ) (m : Removal) → m ≡ removalOf s → sound s ≡ true → isSet (outstandingOf s) ≡ true → (m .count ≤ mostRecords) × (m .collected ≤ mostPages)
-removal-fits s m q e o =
+pub removal-fits : (s : List ℕ) → sound s ≡ true → isSet (outstandingOf s) ≡ true → (removalOf s .count ≤ mostRecords) × (removalOf s .collected ≤ mostPages)
+removal-fits s e o =
     let f = sound-facts s e .removal o .facts in
-    rw q
     (f .few, omega (arith, collected-fits _ _ (f .room), removal-room-fits s (removalOf s) e))
 
 -- the two fields of STATUS's record fill its part
 module _ (part : List ℕ) (m : Removal) (long : length part ≡ statusBytes) {p₁ p₂ : List ℕ} where
-  pub status-some : m .position < m .count → p₁ ≡ sets part 0 (bytesOf 8 (getD (m .size) (m .position) 0)) → p₂ ≡ sets p₁ 8 (bytesOf 8 (m .collected * pageSize)) → p₂ ≡ statusRecord m
+  status-some : m .position < m .count → p₁ ≡ sets part 0 (bytesOf 8 (getD (m .size) (m .position) 0)) → p₂ ≡ sets p₁ 8 (bytesOf 8 (m .collected * pageSize)) → p₂ ≡ statusRecord m
   status-some h e₁ e₂ = stored ∙ sets-whole (statusRecord m) part (long ∙ sym (status-length m))
     where
       stored : p₂ ≡ sets part 0 (statusRecord m)
       stored = unfold statusRecord pick bytesOf in rw (lt-ltb _ _ h, e₂, e₁)
 
-  pub status-settled : m .count ≤ m .position → p₁ ≡ sets part 0 (bytesOf 8 0) → p₂ ≡ sets p₁ 8 (bytesOf 8 0) → p₂ ≡ statusRecord m
+  status-settled : m .count ≤ m .position → p₁ ≡ sets part 0 (bytesOf 8 0) → p₂ ≡ sets p₁ 8 (bytesOf 8 0) → p₂ ≡ statusRecord m
   status-settled h e₁ e₂ = stored ∙ sets-whole (statusRecord m) part (long ∙ sym (status-length m))
     where
       stored : p₂ ≡ sets part 0 (statusRecord m)
       stored = unfold statusRecord pick bytesOf in rw (le-ltb _ _ h, e₂, e₁)
 
--- a removal marked
-pub mark-is : (s : List ℕ) (m : Removal) {s′ : List ℕ} → m ≡ removalOf s → s′ ≡ withRemoval s (marked m) → s′ ≡ withRemoval s (marked (removalOf s))
-mark-is s m e f = f ∙ ap (λ (x : Removal). withRemoval s (marked x)) e
+-- by the words that were read
+module _ (part s : List ℕ) (long : length part ≡ statusBytes) (few : removalOf s .count ≤ mostRecords) {position count : ℕ} (p : position ≡ getD s positionWord 0) (n : count ≡ getD s countWord 0) where
+  pub told-some : {size collected : ℕ} {p₁ p₂ : List ℕ} → position < count → size ≡ getD s (firstSizeWord + position) 0 → collected ≡ getD s collectedWord 0 → p₁ ≡ sets part 0 (bytesOf 8 size) → p₂ ≡ sets p₁ 8 (bytesOf 8 (collected * pageSize)) → p₂ ≡ statusRecord (removalOf s)
+  told-some {size} l z c e₁ e₂ =
+      let below : position < mostRecords = omega (arith, count-is s n) in
+      let size-now : size ≡ getD (removalOf s .size) (removalOf s .position) 0 = rw (← position-is s p) (z ∙ sym (size-is s position below)) in
+      status-some part (removalOf s) long (rw (← position-is s p, ← count-is s n) l) (rw size-now at e₁) (rw (collected-is s c) at e₂)
+
+  pub told-settled : {p₁ p₂ : List ℕ} → count ≤ position → p₁ ≡ sets part 0 (bytesOf 8 0) → p₂ ≡ sets p₁ 8 (bytesOf 8 0) → p₂ ≡ statusRecord (removalOf s)
+  told-settled l e₁ e₂ = status-settled part (removalOf s) long (rw (← position-is s p, ← count-is s n) l) e₁ e₂
 
 -- STATUS and CANCEL.
 module _ (s out : List ℕ) (c handle request : ℕ) {e : Event} {out′ : List ℕ} where
@@ -88,15 +93,15 @@ module _ (s out : List ℕ) (c handle request : ℕ) {e : Event} {out′ : List 
   report-none f n w =
       rw f (record { length′ = sym (memory-length handle DR-MEM-OK 0 request []); notes = n; state = refl; output = w })
 
-  pub report-some : (x : Removal) {out₁ : List ℕ} → isSet (outstandingOf s) ≡ true → x ≡ removalOf s → e ≡ answeredEvent c memoryService codeNone request → outputBytes ≤ length out → out₁ ≡ sets out 0 (memoryHeader handle DR-MEM-OK 1 request statusBytes) → out′ ≡ sets out₁ replyHeaderBytes (statusRecord x) → Handles (reporting s c handle request) out (replyHeaderBytes + statusBytes) e s out′
+  pub report-some : {out₁ : List ℕ} → isSet (outstandingOf s) ≡ true → e ≡ answeredEvent c memoryService codeNone request → outputBytes ≤ length out → out₁ ≡ sets out 0 (memoryHeader handle DR-MEM-OK 1 request statusBytes) → out′ ≡ sets out₁ replyHeaderBytes (statusRecord (removalOf s)) → Handles (reporting s c handle request) out (replyHeaderBytes + statusBytes) e s out′
   unfolding reporting answering pick
-  report-some x t q n room h w =
-      rw (t, ← q)
+  report-some t n room h w =
+      rw t
       (record {
-        length′ = reply-length handle DR-MEM-OK 1 request (statusRecord x) out (status-length x);
+        length′ = reply-length handle DR-MEM-OK 1 request (statusRecord (removalOf s)) out (status-length (removalOf s));
         notes = n;
         state = refl;
-        output = reply-stored handle DR-MEM-OK 1 request (statusRecord x) out statusBytes (status-length x) (omega arith) h w;
+        output = reply-stored handle DR-MEM-OK 1 request (statusRecord (removalOf s)) out statusBytes (status-length (removalOf s)) (omega arith) h w;
       })
 
   module _ (w : out′ ≡ written (memoryReply handle DR-MEM-OK 0 request []) out) where
@@ -105,38 +110,32 @@ module _ (s out : List ℕ) (c handle request : ℕ) {e : Event} {out′ : List 
     cancel-idle f n =
         rw f (record { length′ = sym (memory-length handle DR-MEM-OK 0 request []); notes = n; state = refl; output = w })
 
-    pub cancel-again : (x : Removal) → x ≡ removalOf s → isSet (outstandingOf s) ≡ true → x .cancelled ≡ true → e ≡ answeredEvent c memoryService codeNone request → Handles (cancelling s c handle request) out replyHeaderBytes e s out′
+    pub cancel-again : isSet (outstandingOf s) ≡ true → removalOf s .cancelled ≡ true → e ≡ answeredEvent c memoryService codeNone request → Handles (cancelling s c handle request) out replyHeaderBytes e s out′
     unfolding cancelling answering pick _and_
-    cancel-again x q t k n =
-        rw (t, ← q, k) (record { length′ = sym (memory-length handle DR-MEM-OK 0 request []); notes = n; state = refl; output = w })
+    cancel-again t k n =
+        rw (t, k) (record { length′ = sym (memory-length handle DR-MEM-OK 0 request []); notes = n; state = refl; output = w })
 
-    pub cancel-marks : (x : Removal) {s′ : List ℕ} → x ≡ removalOf s → isSet (outstandingOf s) ≡ true → x .cancelled ≡ false → s′ ≡ withRemoval s (marked (removalOf s)) → e ≡ cancelledEvent c request → Handles (cancelling s c handle request) out replyHeaderBytes e s′ out′
+    pub cancel-marks : {s′ : List ℕ} → isSet (outstandingOf s) ≡ true → removalOf s .cancelled ≡ false → s′ ≡ withRemoval s (marked (removalOf s)) → e ≡ cancelledEvent c request → Handles (cancelling s c handle request) out replyHeaderBytes e s′ out′
     unfolding cancelling pick _and_
-    cancel-marks x {s′} q t k f n =
-        let f′ : s′ ≡ withRemoval s (marked x) = rw (← q) at f in
-        rw (t, ← q)
-        (subst (λ (b : Bool). Handles (pick (not b) (effect (cancelledEvent c request) (withRemoval s (marked x)) (memoryReply handle DR-MEM-OK 0 request [])) (answering s c codeNone request (memoryReply handle DR-MEM-OK 0 request []))) out replyHeaderBytes e s′ out′)
+    cancel-marks {s′} t k f n =
+        rw t
+        (subst (λ (b : Bool). Handles (pick (not b) (effect (cancelledEvent c request) (withRemoval s (marked (removalOf s))) (memoryReply handle DR-MEM-OK 0 request [])) (answering s c codeNone request (memoryReply handle DR-MEM-OK 0 request []))) out replyHeaderBytes e s′ out′)
         (sym k)
-        (record { length′ = sym (memory-length handle DR-MEM-OK 0 request []); notes = n; state = f′; output = w }))
+        (record { length′ = sym (memory-length handle DR-MEM-OK 0 request []); notes = n; state = f; output = w }))
 
--- a removal begun, from the request's pairs as arrays
-pub begin-silent : (s b : List ℕ) (c handle request n : ℕ) (address size : List ℕ) {e : Event} {s′ : List ℕ} → address ≡ tabulate (λ i. addrIn b i) mostRecords → size ≡ tabulate (λ i. sizeIn b i) mostRecords → e ≡ begunEvent c n request
-    → s′ ≡ withRemoval s (record { cancelled = false; channel = c; handle = handle; request = request; count = n; position = 0; collected = 0; address = address; size = size; result = replicate mostRecords 0 })
-    → HandlesSilently (beginning s c handle request b n) 0 e s′
-unfolding beginning newRemoval
-begin-silent s b c handle request n address size p q notes st =
-    record { noReply = refl; length′ = refl; notes = notes; state = rw (p, q) at st }
+-- the record of a pair that was read
+pub pair-same : (s b : List ℕ) (i r : ℕ) {addr size : ℕ} → addr ≡ addrIn b i → size ≡ sizeIn b i → resultRecord s addr size r ≡ resultRecord s (addrIn b i) (sizeIn b i) r
+pair-same s b i r a z = rw (a, z)
 
 -- every record BLOCKED
-pub block-handles : (s b out : List ℕ) (c handle request n : ℕ) (address size : List ℕ) {l : ℕ} {e : Event} {out′ : List ℕ} → n ≤ mostRecords → address ≡ tabulate (λ i. addrIn b i) mostRecords → size ≡ tabulate (λ i. sizeIn b i) mostRecords → ResultsWritten s handle request address size (replicate mostRecords DR-MEM-RES-BLOCKED) n out l out′ → e ≡ answeredEvent c memoryService codeBlocked request → Handles (blocked s c handle request b n) out l e s out′
+pub block-handles : (s b out : List ℕ) (c handle request n : ℕ) {l : ℕ} {e : Event} {out₁ out′ : List ℕ} → n ≤ mostRecords → outputBytes ≤ length out
+    → (l ≡ replyHeaderBytes + n * resultBytes) × (out₁ ≡ sets out 0 (memoryHeader handle DR-MEM-OK n request (n * resultBytes)))
+    → out′ ≡ sets out₁ replyHeaderBytes (joined (λ i. resultRecord s (addrIn b i) (sizeIn b i) DR-MEM-RES-BLOCKED) n)
+    → e ≡ answeredEvent c memoryService codeBlocked request → Handles (blocked s c handle request b n) out l e s out′
 unfolding blocked answering
-block-handles s b out c handle request n address size few p q w notes =
-    let same =
-    pairs-same s b address size (λ i. getD (replicate mostRecords DR-MEM-RES-BLOCKED) i 0) n few p q
-    ∙ joined-same (λ i. resultRecord s (addrIn b i) (sizeIn b i) DR-MEM-RES-BLOCKED)
-    (λ i. resultRecord s (addrIn b i) (sizeIn b i) (getD (replicate mostRecords DR-MEM-RES-BLOCKED) i 0)) n
-    (λ i l. let below : i < mostRecords = omega arith in rw (getD-replicate {A = ℕ} mostRecords i DR-MEM-RES-BLOCKED 0 below)) in
-    rw (← same) (record { length′ = w .long; notes = notes; state = refl; output = w .output })
+block-handles s b out c handle request n few room h w notes =
+    let r = results-stored handle request n (λ i. resultRecord s (addrIn b i) (sizeIn b i) DR-MEM-RES-BLOCKED) (λ i. result-length s (addrIn b i) (sizeIn b i) DR-MEM-RES-BLOCKED) out few room h w in
+    record { length′ = r .long; notes = notes; state = refl; output = r .output }
 
 -- A request with records has the most, and all their bytes.
 abbrev pub Whole : List ℕ → ℕ → Type 0

@@ -4,9 +4,7 @@ use model::DR_MEM_OK;
 use model::DR_MEM_RES_BLOCKED;
 use model::Handled;
 use model::MEMORY_SERVICE;
-use model::MOST_RECORDS;
 use model::REPLY_HEADER_BYTES;
-use model::Removal;
 use model::Request;
 use model::STATUS_BYTES;
 use model::State;
@@ -15,12 +13,14 @@ ghost use mathlib.Core.Bool.{true};
 ghost use mathlib.Core.List.{List};
 ghost use Prim.Native.Nat.{ℕ, _+_, _*_, _≤_, _<_};
 ghost use lib.ListN.{length};
+ghost use lib.Seq.{sets};
+ghost use Rattle.model.specs.Choice.{joined};
 ghost use Rattle.model.specs.declared.Request.the-variants.{Configure, Unconfigure};
-ghost use Rattle.model.specs.Layout.{channelCount, memoryHeaderBytes, mostRecords, outputBytes, pairBytes, removalOf, statusBytes, withRemoval};
+ghost use Rattle.model.specs.Layout.{channelCount, memoryHeaderBytes, mostRecords, outputBytes, pairBytes, removalOf, replyHeaderBytes, statusBytes};
 ghost use Rattle.model.specs.Search.{BlocksInOrder};
 ghost use Rattle.model.specs.Blocks.{mostPages};
 ghost use Rattle.model.specs.State.{sound};
-ghost use Rattle.model.specs.Memory.{marked, answeredMemory, answeringError, beginning, blocked, cancelling, reporting, requestOf, requested, statusRecord};
+ghost use Rattle.model.specs.Memory.{DR-MEM-RES-BLOCKED, addrIn, answeredMemory, answeringError, beginning, blocked, cancelling, reporting, requestOf, requested, resultRecord, sizeIn, statusRecord};
 ghost use Rattle.model.specs.Handler.{Handles, HandlesSilently};
 
 // "ERROR 0x65, argument 0, the same req_num .., no more."
@@ -40,65 +40,26 @@ fn begin(state: &mut State, channel: u64, handle: u64, request: u64, b: &[u8], n
     requires { ⌜ (n ≤ mostRecords) × (length (now b) ≡ memoryHeaderBytes + n * pairBytes) ⌝ }
     ensures { λ r. ⌜ HandlesSilently (beginning (now (state .entry)) channel handle request (now (b .entry)) n) (r .length) (r .event) (now (state .exit)) ⌝ }
 {
-    let address = requests::addresses(b, n);
-    let size = requests::sizes(b, n);
-    let count = n as u64;
-    state::store_removal(
-        state,
-        Removal {
-            cancelled: false,
-            channel: channel,
-            handle: handle,
-            request: request,
-            count: count,
-            position: 0,
-            collected: 0,
-            address: address,
-            size: size,
-            result: [0u64; MOST_RECORDS],
-        },
-    );
+    removal_state::begin(state, channel, handle, request, n, b);
     Handled {
         length: 0,
-        event: events::begun(channel, count, request),
+        event: events::begun(channel, n as u64, request),
     }
 }
 
-// "An outstanding removal is marked and its collected pages go back to 0"
-fn mark(state: &mut State, m: Removal)
-    requires { ⌜ m ≡ removalOf (now state) ⌝ }
-    ensures { λ _. ⌜ now (state .exit) ≡ withRemoval (now (state .entry)) (marked (removalOf (now (state .entry)))) ⌝ }
-{
-    let address = m.address;
-    let size = m.size;
-    let result = m.result;
-    let collected: u64 = 0;
-    state::store_removal(
-        state,
-        Removal {
-            cancelled: true,
-            channel: m.channel,
-            handle: m.handle,
-            request: m.request,
-            count: m.count,
-            position: m.position,
-            collected: collected,
-            address: address,
-            size: size,
-            result: result,
-        },
-    );
-}
-
 // "total (size of the record at the position) and collected bytes, both 0 once all are settled": the part is the record.
-fn put_status_record(part: &mut [u8], m: Removal)
-    requires { ⌜ (m .count ≤ mostRecords) × (m .collected ≤ mostPages) × (length (now part) ≡ statusBytes) ⌝ }
-    ensures { λ _. ⌜ now (part .exit) ≡ statusRecord m ⌝ }
+fn put_status_record(state: &State, part: &mut [u8])
+    requires { ⌜ (removalOf (now state) .count ≤ mostRecords) × (removalOf (now state) .collected ≤ mostPages) × (length (now part) ≡ statusBytes) ⌝ }
+    ensures { λ _. ⌜ now (part .exit) ≡ statusRecord (removalOf (now (state .entry))) ⌝ }
 {
-    let size = m.size;
-    if m.position < m.count {
-        wire::put64(part, 0, size[m.position as usize]);
-        wire::put64(part, 8, m.collected * blocks::PAGE_SIZE);
+    let position = removal_state::position_of(state);
+    if position < removal_state::count_of(state) {
+        wire::put64(part, 0, removal_state::size_of(state, position as usize));
+        wire::put64(
+            part,
+            8,
+            removal_state::collected_of(state) * blocks::PAGE_SIZE,
+        );
         return;
     }
     wire::put64(part, 0, 0);
@@ -117,11 +78,10 @@ fn report(state: &State, channel: u64, handle: u64, request: u64, out: &mut [u8]
             event: events::answered(channel, MEMORY_SERVICE as u64, events::CODE_NONE, request),
         };
     }
-    let m = state::load_removal(state);
     records::put_header(out, handle, DR_MEM_OK, 1, request, STATUS_BYTES);
     put_status_record(
+        state,
         &mut out[REPLY_HEADER_BYTES..REPLY_HEADER_BYTES + STATUS_BYTES],
-        m,
     );
     Handled {
         length: REPLY_HEADER_BYTES + STATUS_BYTES,
@@ -131,7 +91,7 @@ fn report(state: &State, channel: u64, handle: u64, request: u64, out: &mut [u8]
 
 // "CANCEL: reply argument 0. .. a second CANCEL changes nothing."
 fn cancel(state: &mut State, channel: u64, handle: u64, request: u64, out: &mut [u8]) -> Handled
-    requires { ⌜ outputBytes ≤ length (now out) ⌝ }
+    requires { ⌜ (sound (now state) ≡ true) × (outputBytes ≤ length (now out)) ⌝ }
     ensures { λ r. ⌜ Handles (cancelling (now (state .entry)) channel handle request) (now (out .entry)) (r .length) (r .event) (now (state .exit)) (now (out .exit)) ⌝ }
 {
     records::put_bare(out, handle, DR_MEM_OK, request);
@@ -141,18 +101,30 @@ fn cancel(state: &mut State, channel: u64, handle: u64, request: u64, out: &mut 
             event: events::answered(channel, MEMORY_SERVICE as u64, events::CODE_NONE, request),
         };
     }
-    let m = state::load_removal(state);
-    let again = m.cancelled;
-    if again {
+    if removal_state::is_cancelled(state) {
         return Handled {
             length: REPLY_HEADER_BYTES,
             event: events::answered(channel, MEMORY_SERVICE as u64, events::CODE_NONE, request),
         };
     }
-    mark(state, m);
+    removal_state::mark(state);
     Handled {
         length: REPLY_HEADER_BYTES,
         event: events::cancelled(channel, request),
+    }
+}
+
+// The records of a request, each BLOCKED.
+fn put_blocked(state: &State, b: &[u8], n: usize, out: &mut [u8])
+    requires { ⌜ BlocksInOrder (now state) × (n ≤ mostRecords) × (length (now b) ≡ memoryHeaderBytes + n * pairBytes) × (outputBytes ≤ length (now out)) ⌝ }
+    ensures { λ _. ⌜ now (out .exit) ≡ sets (now (out .entry)) replyHeaderBytes (joined (λ i. resultRecord (now (state .entry)) (addrIn (now (b .entry)) i) (sizeIn (now (b .entry)) i) DR-MEM-RES-BLOCKED) n) ⌝ }
+{
+    let mut i: usize = 0;
+    while i < n {
+        let addr = requests::address(b, i);
+        let size = requests::size(b, i);
+        records::put_result(state, out, i, addr, size, DR_MEM_RES_BLOCKED);
+        i += 1;
     }
 }
 
@@ -169,10 +141,8 @@ fn block(
     requires { ⌜ BlocksInOrder (now state) × (n ≤ mostRecords) × (length (now b) ≡ memoryHeaderBytes + n * pairBytes) × (outputBytes ≤ length (now out)) ⌝ }
     ensures { λ r. ⌜ Handles (blocked (now (state .entry)) channel handle request (now (b .entry)) n) (now (out .entry)) (r .length) (r .event) (now (state .entry)) (now (out .exit)) ⌝ }
 {
-    let address = requests::addresses(b, n);
-    let size = requests::sizes(b, n);
-    let result = [DR_MEM_RES_BLOCKED; MOST_RECORDS];
-    let length = records::put_results(state, handle, request, address, size, result, n, out);
+    let length = records::put_results_header(out, handle, request, n);
+    put_blocked(state, b, n, out);
     Handled {
         length: length,
         event: events::answered(

@@ -11,7 +11,7 @@ use lib.Dec.{leb, ltb, eqb}
 use borrow.Author.Tests.{leb-true, leb-false, le-ltb, ne-eqb, eqb-true}
 use Rattle.model.specs.Choice.{pick, _or_}
 use Rattle.model.specs.declared.Event.{Event}
-use Rattle.model.specs.Layout.{blockWords, blockIn, blockAt, blocksOf, lastOf, heldOf, outstandingOf, isSet, removalOf, withCounts}
+use Rattle.model.specs.Layout.{mostBlocks, blockWords, blockIn, blockAt, blocksOf, lastOf, heldOf, outstandingOf, isSet, removalOf, withCounts}
 use Rattle.model.specs.Blocks.{Lists, namedBlock, namedIn}
 use Rattle.model.specs.Journal.{Entry, entryOf, kindBegun, kindCollected, kindSettled, kindRemovalEnd}
 use Rattle.model.specs.Memory.{DR-MEM-RES-OK, marked}
@@ -20,7 +20,7 @@ use Rattle.model.specs.Work.{WorkStep, settled, collecting, collects, en
 use Rattle.model.specs.Calls.{effectOf}
 use Rattle.model.specs.Reading.{View}
 use Rattle.model.specs.Demand3.{Run, entries, noEntry}
-use Rattle.model.specs.Ends.{told, movedBy, movedSince, SettledOk, AddsUp}
+use Rattle.model.specs.Ends.{blockOf, told, movedBy, movedSince, SettledOk, AddsUp}
 use Rattle.model.proofs.Choice.{clash, on-pick}
 use Rattle.model.proofs.Rules.{sound-facts}
 use Rattle.model.proofs.Sounds.{named-less}
@@ -31,6 +31,7 @@ use Rattle.model.proofs.Rules.{Given}
 use Rattle.model.proofs.Effects.{shape}
 use Rattle.model.proofs.WorkEffects.{on-step, remains}
 use Rattle.model.proofs.Steps.{Step, adds, nowork, ok, ends, step-of, turn-sizes}
+use Rattle.model.proofs.SettledWord.{block-back}
 use Rattle.model.proofs.Calls.{Taken, taken}
 use Rattle.model.proofs.Lists.{Kept, AfterCall, grown, shifted, entries-grown, entries-shifted}
 use Rattle.model.proofs.Settled.{counted-blocks, counted-removal}
@@ -65,14 +66,14 @@ moved-more n (x ∷ es) e = moved-more (movedBy n (told x)) es e
 -- The pages that a work step's entry tells: some where it only collects, and all that remained where its record is settled OK.
 pub record Paging (s : List ℕ) (x : WorkStep) : Type 0 where
   pub some : x .effects .event .kind ≡ kindCollected → 1 ≤ x .effects .event .count
-  pub whole : x .effects .event .kind ≡ kindSettled → x .effects .event .code ≡ DR-MEM-RES-OK → removalOf s .collected + x .effects .event .count ≡ blockAt s (x .effects .event .word) .pages
+  pub whole : x .effects .event .kind ≡ kindSettled → x .effects .event .code ≡ DR-MEM-RES-OK → removalOf s .collected + x .effects .event .count ≡ blockAt s (blockOf (x .effects .event)) .pages
 
 module _ (s : List ℕ) (g : Given s) (o : isSet (outstandingOf s) ≡ true) (budget : ℕ) (least : 1 ≤ budget) where
-  collects-paging : (i : ℕ) → removalOf s .collected < blockAt s i .pages → Paging s (moving (pagesMoved s (removalOf s) i budget) (collects s (removalOf s) i (pagesMoved s (removalOf s) i budget)))
+  collects-paging : (i : ℕ) → i < blocksOf s → removalOf s .collected < blockAt s i .pages → Paging s (moving (pagesMoved s (removalOf s) i budget) (collects s (removalOf s) i (pagesMoved s (removalOf s) i budget)))
   unfolding collects pagesMoved
-  collects-paging i h =
+  collects-paging i b h =
       on-pick (λ (e : Effect). Paging s (moving (pagesMoved s (removalOf s) i budget) e)) _ _ _
-      (λ e. record { some = λ k. absurd (omega arith); whole = λ k c. omega (arith, eqb-true, leb-true) })
+      (λ e. record { some = λ k. absurd (omega arith); whole = λ k c. rw (block-back i (removalOf s .position) (omega (arith, g .facts .base .few))) (omega (arith, eqb-true, leb-true)) })
       (λ e. record { some = λ k. omega arith; whole = λ k c. absurd (omega arith) })
 
   pub paging : Paging s (working s budget)
@@ -85,16 +86,16 @@ module _ (s : List ℕ) (g : Given s) (o : isSet (outstandingOf s) ≡ true) (bu
             (λ e. record { some = λ k. absurd (omega arith); whole = λ k c. absurd (omega arith) })
             (λ e. record { some = λ k. absurd (omega arith); whole = λ k c. absurd (omega arith) }));
         onNowork = λ i w z. record { some = λ k. absurd (omega arith); whole = λ k c. absurd (omega arith) };
-        onCollect = λ i w n. collects-paging i (remains s g o i w n .1);
+        onCollect = λ i w n. collects-paging i (named-less s _ _ i (w .named)) (remains s g o i w n .1);
       })
 
 -- what an effect does to the pages since, n before it
 -- a record settled OK
 record Taking (s : List ℕ) (n : ℕ) (e : Event) : Type 0 where
-  within : e .word < blocksOf s
-  whole : n + e .count ≡ blockAt s (e .word) .pages
+  within : blockOf e < blocksOf s
+  whole : n + e .count ≡ blockAt s (blockOf e) .pages
 
-module _ (s : List ℕ) (n : ℕ) (old : outstandingOf s ≡ 1 → removalOf s .cancelled ≡ false → n ≡ removalOf s .collected) where
+module _ (s : List ℕ) (few : blocksOf s ≤ mostBlocks) (n : ℕ) (old : outstandingOf s ≡ 1 → removalOf s .cancelled ≡ false → n ≡ removalOf s .collected) where
   since-step : (e : Effect) → Step s e → outstandingOf s ≡ 1 → outstandingOf (e .state) ≡ 1 → movedBy n (e .event) ≡ removalOf (e .state) .collected
   since-step e (adds i p w b r d ev) one o =
       moved-collected n (e .event) (ap (λ (v : Event). v .kind) ev)
@@ -103,11 +104,11 @@ module _ (s : List ℕ) (n : ℕ) (old : outstandingOf s ≡ 1 → removalOf s .
   since-step e (ok i p w b other now r d ev) one o = moved-settled n (e .event) (ap (λ (v : Event). v .kind) ev) ∙ rw (r .removal) (unfold settled in refl)
   since-step e (ends b z k) one o = absurd (omega (arith, z, o))
 
-  ok-step : (e : Effect) → Step s e → outstandingOf s ≡ 1 → e .event .code ≡ DR-MEM-RES-OK → e .event .kind ≡ kindSettled → removalOf s .collected + e .event .count ≡ blockAt s (e .event .word) .pages → Taking s n (e .event)
+  ok-step : (e : Effect) → Step s e → outstandingOf s ≡ 1 → e .event .code ≡ DR-MEM-RES-OK → e .event .kind ≡ kindSettled → removalOf s .collected + e .event .count ≡ blockAt s (blockOf (e .event)) .pages → Taking s n (e .event)
   ok-step e (adds i p w b r d ev) one c k h = absurd (omega (arith, k, ap (λ (v : Event). v .kind) ev))
   ok-step e (nowork i w b r z ev) one c k h = absurd (omega (arith, c, ap (λ (v : Event). v .code) ev))
   ok-step e (ok i p w b other now r d ev) one c k h = record {
-    within = rw ev (named-less s _ _ i (w .named));
+    within = rw (ev, block-back i (removalOf s .position) (omega (arith, few, named-less s _ _ i (w .named)))) (named-less s _ _ i (w .named));
     whole = rw (old one (w .goesOn)) h;
   }
   ok-step e (ends b z k′) one c k h = absurd (omega (arith, k, k′))
@@ -122,7 +123,7 @@ module _ (s : List ℕ) (n : ℕ) (old : outstandingOf s ≡ 1 → removalOf s .
   since-turn e (marks b r z k) o c = absurd (clash _ c (rw (r .removal) (unfold marked in refl)))
   since-turn e (steps t budget some h b r one same) o c =
       rw same
-      (since-step t n (λ p q. rw (r .removal) (old (sym (r .outstanding) ∙ p) (rw (r .removal) at q))) (working t budget .effects) (step-of t h (rw one) budget) one (rw same at o))
+      (since-step t (h .facts .base .few) n (λ p q. rw (r .removal) (old (sym (r .outstanding) ∙ p) (rw (r .removal) at q))) (working t budget .effects) (step-of t h (rw one) budget) one (rw same at o))
 
   ok-turn : (e : Effect) → Turn s e → e .event .kind ≡ kindSettled → e .event .code ≡ DR-MEM-RES-OK → Taking s n (e .event)
   ok-turn e (leaves b r a) k c = absurd (not-aside _ kindSettled a (omega arith) (omega arith) k)
@@ -131,7 +132,7 @@ module _ (s : List ℕ) (n : ℕ) (old : outstandingOf s ≡ 1 → removalOf s .
   ok-turn e (marks b r z k′) k c = absurd (omega (arith, k, k′))
   ok-turn e (steps t budget some h b r one same) k c =
       let x =
-      ok-step t n (λ p q. rw (r .removal) (old (sym (r .outstanding) ∙ p) (rw (r .removal) at q))) (working t budget .effects) (step-of t h (rw one) budget) one (rw same at c) (rw same at k)
+      ok-step t (h .facts .base .few) n (λ p q. rw (r .removal) (old (sym (r .outstanding) ∙ p) (rw (r .removal) at q))) (working t budget .effects) (step-of t h (rw one) budget) one (rw same at c) (rw same at k)
       (paging t h (rw one) budget some .whole (rw same at k) (rw same at c)) in
       rw same
       (record {
@@ -148,7 +149,7 @@ pub record Adding (l : Lists) (u : Run) : Type 0 where
   pub added : (i : ℕ) → i < length (entries u) → SettledOk (getD (entries u) i noEntry) → AddsUp l (take i (entries u)) (getD (entries u) i noEntry)
 
 -- entries that add up, and one more
-added-more : (l : Lists) (es : List Entry) (x : Entry) → ((i : ℕ) → i < length es → SettledOk (getD es i noEntry) → AddsUp l (take i es) (getD es i noEntry)) → (SettledOk x → AddsUp l es x) → (i : ℕ) → i < length (es ++ x ∷ []) → SettledOk (getD (es ++ x ∷ []) i noEntry) → AddsUp l (take i (es ++ x ∷ [])) (getD (es ++ x ∷ []) i noEntry)
+pub added-more : (l : Lists) (es : List Entry) (x : Entry) → ((i : ℕ) → i < length es → SettledOk (getD es i noEntry) → AddsUp l (take i es) (getD es i noEntry)) → (SettledOk x → AddsUp l es x) → (i : ℕ) → i < length (es ++ x ∷ []) → SettledOk (getD (es ++ x ∷ []) i noEntry) → AddsUp l (take i (es ++ x ∷ [])) (getD (es ++ x ∷ []) i noEntry)
 added-more l es x old new i h = go (leb (length es) i) refl
   where
     go : (b : Bool) → leb (length es) i ≡ b → SettledOk (getD (es ++ x ∷ []) i noEntry) → AddsUp l (take i (es ++ x ∷ [])) (getD (es ++ x ∷ []) i noEntry)
@@ -193,7 +194,7 @@ module _ (l : Lists) (b : View) (u : Run) (k : Kept b u) (q : Adding l u) where
             let y = ok-turn (u .state) (movedSince 0 (entries u)) (q .since) e (t .good .turn) (rw tell at (ok .isSettled)) (rw tell at (ok .isOk)) in
             record {
               listed = rw tell (omega (arith, y .within, q .count));
-              pages = rw tell (y .whole ∙ q .pages (e .event .word) (y .within));
+              pages = rw tell (y .whole ∙ q .pages (blockOf (e .event)) (y .within));
             }));
       }
 

@@ -23,7 +23,7 @@ use Rattle.model.specs.Devices.{namedDevice}
 use Rattle.model.specs.DeviceRequests.{operationOf, deviceNumber, deviceId, deviceType, deviceName, deviceReply, answeringDevice, askingDevice, deviceFor, answeredDevice}
 use Rattle.model.specs.Orders.{orderNumber, orderReply, notOrdered, ordering, orderingFor, answeredOrder}
 use Rattle.model.specs.Peers.{topBit, isPeered, peeredAs, peerFor}
-use Rattle.model.specs.Reading.{none, viewOf, Peer, noPeer, peer, peerPlace, peersShown, hasHandle}
+use Rattle.model.specs.Reading.{none, viewOf, noPeer, peer, peerPlace, peersShown, hasHandle}
 use Rattle.model.specs.Demand3.{sameBytes, Delivers, WellFormedData, reached, reachedPeer, replyOf, showsRegistered, showsService, showsPeer}
 use Rattle.model.proofs.Choice.{clash, on-pick, on-first, first-nowhere, first-same, both, and-false-right, tabulate-at}
 use Rattle.model.proofs.Shown.{shows-service, shows-first}

@@ -3,31 +3,34 @@
 use Prim.Native.Nat.{ℕ, _+_}
 use native.Mathlib.Omega.{arith}
 use mathlib.Core.Path.{_≡_, refl, sym, ap, _∙_}
-use mathlib.Core.Bool.{Bool, true, false}
+use mathlib.Core.Bool.{Bool, true, false, not}
 use mathlib.Core.List.{List, [], _∷_, _++_}
-use Rattle.model.specs.Choice.{pick}
+use Rattle.model.specs.Choice.{pick, _and_, _or_}
 use Rattle.model.specs.declared.Started.{Started}
-use Rattle.model.specs.Blocks.{Lists, acceptedLists, setupState}
-use Rattle.model.specs.Calls.{Outcome, started, effectOf}
-use Rattle.model.specs.Layout.{Device, devicesOf, firstDeviceWord, lastOf, withCounts}
+use Rattle.model.specs.Blocks.{Lists, acceptedLists}
+use Rattle.model.specs.Calls.{Outcome, SetUp, setupRefusal, setUp, effectOf}
+use Rattle.model.specs.Layout.{journalWords, Device, devicesOf, firstDeviceWord, lastOf, withCounts}
 use Rattle.model.specs.Devices.{devicesKeep}
-use Rattle.model.specs.Reading.{View, reading, setupView, devicesShown, setupDevices, readDevices, readingDevices, Orders, ordersShown, setupOrders, readOrders, readingOrders, Peer, peersShown, setupPeers, readPeers, readingPeers}
+use Rattle.model.specs.Reading.{readIn, readingIn, viewOf, View, setupView, devicesShown, setupDevices, readDevices, readingDevices, Orders, ordersShown, setupOrders, readOrders, readingOrders, Peer, peersShown, setupPeers, readPeers, readingPeers}
 use Rattle.entry.specs.declared.Fields.{Fields}
-use Rattle.entry.specs.Word.{unpacked}
+use Rattle.entry.specs.Word.{unpacked, InRange}
+use lib.Dec.{eqb}
+use lib.ListN.{length}
+use borrow.Author.Tests.{eqb-true, eqb-false}
 use Rattle.model.specs.Messages.{Effect}
 use Rattle.model.specs.Demand3.{Run, Done, after, newRun, entries, runs, Demand3}
 use Rattle.model.specs.Contracts.{Meets, AllMeet, SetupPost, OfEveryList}
 use Rattle.model.proofs.Rules.{sound-facts}
-use Rattle.model.proofs.Setup.{starts}
+use Rattle.model.proofs.Setup.{markedState, setup-accepts, starts}
 use Rattle.model.proofs.Words.{counts-frame}
 use Rattle.model.proofs.Devices.{shown-same}
 use Rattle.model.proofs.Above.{turn-keeps, turn-shown, turn-ordered, orders-shown-same}
 use Rattle.model.proofs.Peers.{peers-shown-same}
-use Rattle.model.proofs.Ring.{fields-back}
+use Rattle.model.proofs.Ring.{fields-back, stored-same}
 use Rattle.model.proofs.Calls.{Taken, taken}
-use Rattle.model.proofs.Lists.{Kept, AfterCall, grown, shifted, entries-grown, entries-shifted, meets-outcome, on-list}
+use Rattle.model.proofs.Lists.{Kept, AfterCall, grown, shifted, entries-grown, entries-shifted, meets-outcome, on-list, listed-more}
 use Rattle.model.proofs.Delivers.{delivers, delivers-peer}
-use Rattle.model.specs.Journal.{Entry, entriesAt, entryOf}
+use Rattle.model.specs.Journal.{markEvent, stored, fieldsOf, Entry, entriesAt, entryOf}
 
 -- what a part of such a list meets
 pub meets-before : (u : Run) (before later : List Done) → AllMeet u (before ++ later) → AllMeet u before
@@ -45,62 +48,76 @@ unfolding AllMeet runs
 meets-after u [] d later m = m .1
 meets-after u (x ∷ before) d later m = meets-after (after u x) before d later (m .1)
 
--- setup refuses by 7 and nothing else, so where it does not refuse the lists are accepted, and the state is theirs
-refusal-of : (b : Bool) (x y : Started) → x .refusal ≡ 0 → y .refusal ≡ 7 → pick b x y .refusal ≡ 0 → b ≡ true
-unfolding pick
-refusal-of true x y p q e = refl
-refusal-of false x y p q e = absurd (omega arith)
+-- what an accepted setup leaves
+set-up : (l : Lists) (j : List ℕ) → setUp l j .refusal ≡ 0 → (setupRefusal l (length j) ≡ 0) × (setUp l j ≡ record { refusal = 0; state = markedState l; journal = stored j 1 (entryOf 1 markEvent) })
+unfolding setUp pick
+set-up l j e = go (eqb (setupRefusal l (length j)) 0) refl
+  where
+    go : (b : Bool) → eqb (setupRefusal l (length j)) 0 ≡ b → (setupRefusal l (length j) ≡ 0) × (setUp l j ≡ record { refusal = 0; state = markedState l; journal = stored j 1 (entryOf 1 markEvent) })
+    go true q = (eqb-true _ 0 q, unfold setUp pick in (rw q))
+    go false q = absurd (eqb-false _ 0 q (unfold setUp pick in (rw q at e)))
 
-pub started-accepted : (l : Lists) → started l .refusal ≡ 0 → acceptedLists l ≡ true
-unfolding started
-started-accepted l e = refusal-of (acceptedLists l) _ _ refl refl e
+-- "read as nothing"
+mark-range : InRange (fieldsOf 1 markEvent)
+unfolding fieldsOf
+mark-range = omega arith
 
-started-state : (l : Lists) → acceptedLists l ≡ true → started l .state ≡ setupState l
-unfolding started pick
-started-state l a = rw a
+pub mark-back : unpacked (entryOf 1 markEvent .first) ≡ fieldsOf 1 markEvent
+mark-back = fields-back 1 markEvent mark-range
+
+mark-entries : (s j : List ℕ) → length j ≡ journalWords → entries (newRun s (stored j 1 (entryOf 1 markEvent))) ≡ entryOf 1 markEvent ∷ []
+unfolding entries entriesAt
+mark-entries s j n = rw (stored-same j 1 (entryOf 1 markEvent) n)
 
 -- before any call
-kept-start : (l : Lists) (j : List ℕ) → acceptedLists l ≡ true → Kept (setupView l) (newRun (setupState l) j)
-unfolding entries entriesAt reading
-kept-start l j a =
+kept-start : (l : Lists) (j : List ℕ) → acceptedLists l ≡ true → length j ≡ journalWords → Kept (setupView l) (newRun (markedState l) (stored j 1 (entryOf 1 markEvent)))
+kept-start l j a n =
     let s = starts l a in
     record {
       size = s .size;
       sounds = s .sounds;
       last = s .last;
       held = omega (arith, s .held);
-      listed = record { total = refl; numbered = λ i h. omega arith; reads = sym (s .view) };
+      listed =
+          rw (mark-entries (markedState l) j n)
+          (listed-more (setupView l) [] 0 (setupView l) (viewOf (markedState l)) markEvent
+          (record { total = refl; numbered = λ i h. absurd (omega arith); reads = unfold readingIn in refl })
+          mark-back
+          (unfold fieldsOf readIn pick in (sym (s .view))));
     }
 
 -- a setup that is not refused
 pub record First (l : Lists) (s j : List ℕ) : Type 0 where
   pub accepted : acceptedLists l ≡ true
-  pub state : s ≡ setupState l
+  pub state : s ≡ markedState l
+  pub entry : entries (newRun s j) ≡ entryOf 1 markEvent ∷ []
   pub kept : Kept (setupView l) (newRun s j)
 
-pub at-first : (l : Lists) (r : Started) (j : List ℕ) → SetupPost l r → r .refusal ≡ 0 → First l (r .state) j
-at-first l r j e z =
-    let a = started-accepted l (rw e at z) in
-    let state : r .state ≡ setupState l = ap (λ (x : Started). x .state) e ∙ started-state l a in
-    record { accepted = a; state = state; kept = rw state (kept-start l j a) }
+pub at-first : (l : Lists) (r : Started) (j j′ : List ℕ) → SetupPost l j r j′ → r .refusal ≡ 0 → First l (r .state) j′
+at-first l r j j′ e z =
+    let x = set-up l j (sym (ap (λ (x : SetUp). x .refusal) e) ∙ z) in
+    let y = setup-accepts l (length j) (x .0) in
+    let whole = e ∙ x .1 in
+    let state : r .state ≡ markedState l = ap (λ (x : SetUp). x .state) whole in
+    let journal : j′ ≡ stored j 1 (entryOf 1 markEvent) = ap (λ (x : SetUp). x .journal) whole in
+    record {
+      accepted = y .1;
+      state = state;
+      entry = rw journal (mark-entries (r .state) j (y .0));
+      kept = rw (state, journal) (kept-start l j (y .1) (y .0));
+    }
 
-devices-first : (l : Lists) (r : Started) (j : List ℕ) → SetupPost l r → r .refusal ≡ 0 → readingDevices (setupDevices l) (entries (newRun (r .state) j)) ≡ devicesShown (r .state)
-unfolding entries entriesAt readingDevices
-devices-first l r j e z =
-    let f = at-first l r j e z in
-    rw (f .state) (sym (starts l (f .accepted) .devices))
+devices-first : (l : Lists) (s j : List ℕ) → First l s j → readingDevices (setupDevices l) (entries (newRun s j)) ≡ devicesShown s
+unfolding readingDevices readDevices
+devices-first l s j f = rw (f .entry, mark-back, f .state) (unfold fieldsOf pick in (sym (starts l (f .accepted) .devices)))
 
-orders-first : (l : Lists) (r : Started) (j : List ℕ) → SetupPost l r → r .refusal ≡ 0 → readingOrders setupOrders (entries (newRun (r .state) j)) ≡ ordersShown (r .state)
-unfolding entries entriesAt readingOrders
-orders-first l r j e z =
-    let f = at-first l r j e z in
-    rw (f .state) (sym (starts l (f .accepted) .orders))
+orders-first : (l : Lists) (s j : List ℕ) → First l s j → readingOrders setupOrders (entries (newRun s j)) ≡ ordersShown s
+unfolding readingOrders readOrders
+orders-first l s j f = rw (f .entry, mark-back, f .state) (unfold fieldsOf pick _and_ in (sym (starts l (f .accepted) .orders)))
 
-peers-first : (l : Lists) (r : Started) (j : List ℕ) → SetupPost l r → r .refusal ≡ 0 → readingPeers setupPeers (entries (newRun (r .state) j)) ≡ peersShown (r .state)
-unfolding entries entriesAt readingPeers
-peers-first l r j e z =
-    let f = at-first l r j e z in
-    rw (f .state) (sym (starts l (f .accepted) .peers))
+peers-first : (l : Lists) (s j : List ℕ) → First l s j → readingPeers setupPeers (entries (newRun s j)) ≡ peersShown s
+unfolding readingPeers readPeers
+peers-first l s j f = rw (f .entry, mark-back, f .state) (unfold fieldsOf pick _or_ in (sym (starts l (f .accepted) .peers)))
 
 -- up to each place of a list
 pub kept-meeting : (b : View) (u : Run) (ds : List Done) → AllMeet u ds → Kept b u → Kept b (runs u ds)
@@ -186,13 +203,13 @@ peers-step b u k q = record {
         ∙ sym (unfold grown in (peers-counted (e .state) _ _) ∙ t .good .peers .reads (lastOf (u .state) + 1))))
 
 -- at each place of a list: the registrations read back by the entries before it
-peers-meeting : (l : Lists) (r : Started) (j : List ℕ) (ds : List Done) → SetupPost l r → r .refusal ≡ 0 → AllMeet (newRun (r .state) j) ds → PeersRead (runs (newRun (r .state) j) ds)
-peers-meeting l r j ds e z m =
-    on-list (setupView l) PeersRead (peers-step (setupView l)) (newRun (r .state) j) ds m (at-first l r j e z .kept) (peers-first l r j e z) .1
+peers-meeting : (l : Lists) (s j : List ℕ) (ds : List Done) → First l s j → AllMeet (newRun s j) ds → PeersRead (runs (newRun s j) ds)
+peers-meeting l s j ds f m = on-list (setupView l) PeersRead (peers-step (setupView l)) (newRun s j) ds m (f .kept) (peers-first l s j f) .1
 
 pub demand3 : OfEveryList (λ l s j ds. Demand3 l s j ds (runs (newRun s j) ds))
-demand3 l r j ds e z m =
-    let first = at-first l r j e z .kept in
+demand3 l r j₀ j ds e z m =
+    let begun = at-first l r j₀ j e z in
+    let first = begun .kept in
     let k = kept-meeting (setupView l) (newRun (r .state) j) ds m first in
     record {
       total = k .listed .total;
@@ -203,11 +220,11 @@ demand3 l r j ds e z m =
       reads = k .listed .reads;
       readsDevices =
           on-list (setupView l) (DevicesRead (setupDevices l)) (devices-step (setupView l) (setupDevices l)) (newRun (r .state) j) ds m first
-          (devices-first l r j e z)
+          (devices-first l (r .state) j begun)
           .1;
       readsOrders =
-          on-list (setupView l) OrdersRead (orders-step (setupView l)) (newRun (r .state) j) ds m first (orders-first l r j e z) .1;
-      readsPeers = peers-meeting l r j ds e z m;
+          on-list (setupView l) OrdersRead (orders-step (setupView l)) (newRun (r .state) j) ds m first (orders-first l (r .state) j begun) .1;
+      readsPeers = peers-meeting l (r .state) j ds begun m;
       delivers =
           λ before later c handle msg out o q d y.
           let m′ = rw q at m in
@@ -222,7 +239,7 @@ demand3 l r j ds e z m =
           let n = meets-before (newRun (r .state) j) before _ m′ in
           let b = kept-meeting (setupView l) (newRun (r .state) j) before n first in
           let same = meets-outcome (meets-here (newRun (r .state) j) before _ later m′) in
-          rw (peers-meeting l r j before e z n, same)
+          rw (peers-meeting l (r .state) j before begun n, same)
           (delivers-peer (runs (newRun (r .state) j) before .state) (runs (newRun (r .state) j) before .journal) c handle msg out (b .size) d
           (sym (ap (λ (x : Outcome). x .refusal) same) ∙ y));
     }

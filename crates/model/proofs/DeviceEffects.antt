@@ -1,6 +1,6 @@
 -- The effects of the virtual devices' service, as Effects.antt shows of each.
 -- Assumes nothing.
-use Prim.Native.Nat.{ℕ, _+_, _≤_, _<_}
+use Prim.Native.Nat.{ℕ, _≤_, _<_}
 use native.Mathlib.Omega.{arith}
 use mathlib.Core.Path.{_≡_, refl}
 use mathlib.Core.Bool.{true}
@@ -10,26 +10,24 @@ use Rattle.model.specs.Choice.{pick, _or_}
 use Rattle.model.specs.declared.Found.{Found}
 use Rattle.model.specs.declared.Found.the-variants.{At, Nowhere}
 use Rattle.model.specs.declared.DeviceOperation.{DeviceOperation}
-use Rattle.model.specs.Layout.{channelCount, deviceService, Device, deviceAt, devicesOf, firstDeviceWord, withDevice, lastOf, blockCountWord, lastWord, heldWord, outputBytes}
+use Rattle.model.specs.Layout.{channelCount, deviceService, Device, deviceAt, devicesOf, firstDeviceWord, withDevice, outputBytes}
 use Rattle.model.specs.Devices.{namedDevice}
 use Rattle.model.specs.DeviceRequests.{operationOf, deviceResult, configuredAfter, deviceType, deviceNumber, deviceId, deviceName, answeringDevice, askingDevice, deviceFor, answeredDevice}
 use Rattle.model.specs.Journal.{answeredEvent, deviceEvent, fieldsOf}
 use Rattle.model.specs.Messages.{effect}
-use Rattle.model.specs.Reading.{read, viewOf}
+use Rattle.model.specs.Reading.{handleIn, readIn, settledBlock, viewOf}
 use Rattle.model.specs.Replay.{showsReady, showsStage, isRegistered}
 use Rattle.model.proofs.Choice.{on-pick, first-facts}
 use Rattle.model.proofs.Words.{device-frame, device-length}
-use Rattle.model.proofs.View.{counted-view}
 use Rattle.model.proofs.Devices.{device-facts, flag-few}
 use Rattle.model.proofs.Peers.{leavesPeers}
 use Rattle.model.proofs.Above.{asksDevice}
 use Rattle.model.proofs.Rules.{Given}
-use Rattle.model.proofs.Sounds.{base-same, removes-same}
-use Rattle.model.proofs.Turns.{leaves, aside, same-blocks, same-removal}
+use Rattle.model.proofs.Turns.{leaves, aside}
 use Rattle.model.proofs.Events.{codeEnd, answered-fits, device-fits}
 use Rattle.model.proofs.Needs.{answered-needs, device-needs}
 use Rattle.model.proofs.Replies.{device-short}
-use Rattle.model.proofs.Effects.{Good, shape, next-number, base-now, removes-now, unchanged}
+use Rattle.model.proofs.Effects.{Good, next-number, unchanged, high-changed}
 
 -- a device that is named is one of the state's
 device-less : (s : List ℕ) (id : ℕ) (name : List ℕ) (i : ℕ) → namedDevice s id name ≡ At i → i < devicesOf s
@@ -65,41 +63,21 @@ pub record ReachesDevices (s : List ℕ) (c : ℕ) : Type 0 where
 module _ (s : List ℕ) (g : Given s) (c : ℕ) (h : ReachesDevices s c) where
   -- 10
   answering-good : (handle request result : ℕ) → result < codeEnd → Good s (answeringDevice s c handle request result)
-  unfolding answeringDevice fieldsOf read pick aside _or_
+  unfolding answeringDevice fieldsOf readIn handleIn settledBlock pick aside _or_
   answering-good handle request result k =
       unchanged s g (answeredEvent c deviceService result request) _ (answered-fits _ c (next-number s g) (h .below) deviceService result request (omega arith) k)
       (λ v. refl) (device-short handle request result _) refl refl (answered-needs _ _ c deviceService result request (h .ready) (h .shown))
 
   -- 18: one device's flag, and nothing else
   device-changed : (result i flag : ℕ) (reply : List ℕ) → result < codeEnd → i < devicesOf s → flag ≤ 1 → length reply ≤ outputBytes → Good s (effect (deviceEvent c result i flag) (withDevice s i flag) reply)
-  unfolding fieldsOf read pick aside _or_
+  unfolding fieldsOf readIn handleIn settledBlock pick aside _or_
   device-changed result i flag reply k l small short =
       let e = device-frame s i flag in
       let few = device-facts s firstDeviceWord (devicesOf s) (g .facts .devices) .few in
-      record {
-        entry = device-fits _ c (next-number s g) (h .below) result i flag k (omega arith);
-        moves = record {
-          size = device-length s i flag;
-          blocks = e blockCountWord (λ p q. omega arith);
-          last = e lastWord (λ p q. omega arith);
-          held = e heldWord (λ p q. omega arith);
-          view =
-              counted-view s (withDevice s i flag) (shape s g)
-              (record { size = device-length s i flag; under = λ j lo hi. e j (λ p q. omega arith); over = λ j lo hi. e j (λ p q. omega arith) });
-        };
-        fits = short;
-        base = base-same s (withDevice s i flag) (lastOf s + 1) (λ j lo hi. e j (λ p q. omega arith)) (base-now s g);
-        removal =
-            removes-same s (withDevice s i flag) (lastOf s + 1) (g .facts .base .few) (λ j lo hi. e j (λ p q. omega arith)) (λ j lo hi. e j (λ p q. omega arith)) (removes-now s g);
-        turn =
-            leaves
-            (same-blocks s (withDevice s i flag) (g .facts .base .few) (λ j lo hi. e j (λ p q. omega arith)))
-            (same-removal s (withDevice s i flag) (λ j lo hi. e j (λ p q. omega arith)))
-            refl;
-        need = device-needs _ _ c result i flag;
-        above = asksDevice i flag l small (λ j lo hi. refl) refl refl refl;
-        peers = leavesPeers s (effect (deviceEvent c result i flag) (withDevice s i flag) reply) (g .facts .peers) (λ j lo hi. e j (λ p q. omega arith)) (λ j lo hi. e j (λ p q. omega arith)) (omega arith) (omega arith);
-      }
+      high-changed s g (deviceEvent c result i flag) (withDevice s i flag) reply (device-length s i flag) (λ j lo hi. e j (λ p q. omega arith))
+      (device-fits _ c (next-number s g) (h .below) result i flag k (omega arith)) (λ v. refl) short refl (device-needs _ _ c result i flag)
+      (asksDevice i flag l small (λ j lo hi. refl) refl refl refl)
+      (leavesPeers s (effect (deviceEvent c result i flag) (withDevice s i flag) reply) (g .facts .peers) (λ j lo hi. e j (λ p q. omega arith)) (λ j lo hi. e j (λ p q. omega arith)) (omega arith) (omega arith))
 
   asking-good : (handle request : ℕ) (o : DeviceOperation) (i : ℕ) → o .configured ≤ 1 → i < devicesOf s → Good s (askingDevice s c handle request o i)
   unfolding askingDevice

@@ -8,14 +8,14 @@ use mathlib.Core.Bool.{Bool, true, false}
 use mathlib.Core.List.{List, []}
 use lib.ListN.{length}
 use lib.Dec.{eqb, leb, ltb}
-use borrow.Author.Tests.{ltb-true, ltb-false, eqb-true, eqb-false, le-leb, not-true}
+use borrow.Author.Tests.{ltb-true, ltb-false, eqb-true, le-leb}
 use Rattle.model.specs.Choice.{pick, _or_, clearedFrom}
 use Rattle.model.specs.declared.Event.{Event}
-use Rattle.model.specs.Layout.{placeOf, blockCountWord, lastWord, outstandingWord, channelCount, handleAt, highestMinor, highestNumber, lastOf, outputBytes, placeCount, readyAt, serviceCount, stageAt, stageIdle, stageOffered, stageRegistered, withChannel, withService, firstNumberedWord, heldOf, heldWord, firstHandleWord, firstStageWord, serviceWords, withNumber, deviceCountWord, idCountWord, mostIds, stateWords}
+use Rattle.model.specs.Layout.{placeOf, blockCountWord, lastWord, outstandingWord, channelCount, handleAt, highestMinor, highestNumber, lastOf, outputBytes, placeCount, readyAt, serviceCount, stageAt, stageIdle, stageOffered, stageRegistered, withChannel, withService, firstNumberedWord, heldOf, heldWord, firstHandleWord, firstStageWord, serviceWords, withNumber, deviceCountWord, mostIds, stateWords}
 use Rattle.model.specs.State.{serviceSound, ourHandle}
 use Rattle.model.specs.Journal.{fieldsOf, closedEvent, notedEvent, offerRefusedEvent, offeredEvent, readyEvent, registeredEvent, serviceEndedEvent, versionRefusedEvent, kindNoted}
-use Rattle.model.specs.Messages.{Effect, effect, numbersAnew, acknowledged, closing, initiated, liveAs, liveFor, notAcknowledged, noting, offeredAs, offeredFor, offering, unregistered, withIdle, withRegistered, withdrawing, initAck}
-use Rattle.model.specs.Reading.{View, read, Peer, noPeer, peerPlace, readPeers, stageOf, seeChannel, seeService, viewOf}
+use Rattle.model.specs.Messages.{Effect, effect, numbersAnew, acknowledged, closing, initiated, notAcknowledged, noting, offeredAs, offeredFor, offering, withIdle, withRegistered, withdrawing, initAck}
+use Rattle.model.specs.Reading.{handleIn, readIn, settledBlock, View, read, Peer, noPeer, peerPlace, readPeers, stageOf, seeChannel, seeService, viewOf}
 use Rattle.model.specs.Replay.{needed, isIdle, isOffered, isOfferedAs, isLive}
 use Rattle.model.proofs.Choice.{on-pick, on-first, both}
 use Rattle.model.proofs.View.{Shape, Moves, stays, then, turns, counted-view, service-moves, channel-moves}
@@ -23,12 +23,12 @@ use Rattle.model.proofs.Words.{Agree, service-frame, channel-frame, num
 use Rattle.model.proofs.Above.{AboveTurn, leavesAbove, turn-back}
 use Rattle.model.proofs.Peers.{PeerTurn, leavesChannels, up-to-noted, leavesAsRead, peers-back, drops}
 use Rattle.model.proofs.Rules.{Given, Base, Removes, Live, live-rules, live-last, service-idle, base-later, removes-later}
-use Rattle.model.proofs.Sounds.{base-service, base-channel, removes-same, sound-same}
+use Rattle.model.proofs.Sounds.{base-same, base-service, base-channel, removes-same, sound-same}
 use Rattle.model.proofs.Needs.{ready-needs, closed-needs, version-needs, offered-needs, registered-needs, refused-needs, ended-needs, noted-needs}
 use Rattle.model.proofs.Shown.{Reaches, shows-open, shows-test, idle-here, offered-here, offered-as-here, live-here}
 use Rattle.model.proofs.Turns.{Turn, leaves, aside, same-blocks, same-removal, turn-same}
 use Rattle.model.proofs.Events.{Fits, ready-fits, closed-fits, version-fits, offered-fits, registered-fits, refused-fits, ended-fits, noted-fits}
-use Rattle.model.proofs.Replies.{short-empty, initAck-short, initNack-short, regReq-short, unreg-short, unregAck-short, unregNack-short}
+use Rattle.model.proofs.Replies.{short-empty, initAck-short, initNack-short, regReq-short, unreg-short}
 
 -- what reading an event does
 abbrev pub readBy : List ℕ → Event → View → View
@@ -76,6 +76,32 @@ module _ (s : List ℕ) (g : Given s) where
     need = n;
     above = leavesAbove (λ j lo hi. refl) (up-to-noted (e .kind) d);
     peers = leavesAsRead s (effect e s reply) (g .facts .peers) (λ j lo hi. refl) (λ j lo hi. refl) d;
+  }
+
+  -- Words from the devices on changed, and none below them.
+  pub high-changed : (e : Event) (t reply : List ℕ) → length t ≡ length s → Agree s t 0 deviceCountWord → Fits (lastOf s + 1) e → ((v : View) → readBy s e v ≡ v) → length reply ≤ outputBytes → aside (e .kind) ≡ true → neededBy s e → AboveTurn s (effect e t reply) → PeerTurn s (effect e t reply) → Good s (effect e t reply)
+  high-changed e t reply size w f r short a n above peers = record {
+    entry = f;
+    moves = record {
+      size = size;
+      blocks = w blockCountWord (omega arith) (omega arith);
+      last = w lastWord (omega arith) (omega arith);
+      held = w heldWord (omega arith) (omega arith);
+      view =
+          counted-view s t shape (record { size = size; under = λ j lo hi. w j lo (omega arith); over = λ j lo hi. w j (omega arith) (omega arith) })
+          ∙ sym (r (viewOf s));
+    };
+    fits = short;
+    base = base-same s t (lastOf s + 1) (λ j lo hi. w j lo (omega arith)) base-now;
+    removal = removes-same s t (lastOf s + 1) (g .facts .base .few) (λ j lo hi. w j (omega arith) (omega arith)) (λ j lo hi. w j (omega arith) (omega arith)) removes-now;
+    turn =
+        leaves
+        (same-blocks s t (g .facts .base .few) (λ j lo hi. w j (omega arith) (omega arith)))
+        (same-removal s t (λ j lo hi. w j (omega arith) (omega arith)))
+        a;
+    need = n;
+    above = above;
+    peers = peers;
   }
 
   -- One service changed: it is sound by itself, and where it is live no other live service has its handle.
@@ -128,7 +154,7 @@ module _ (s : List ℕ) (g : Given s) where
 
   -- DS messages and host calls.
   pub closing-good : (c by : ℕ) → c < channelCount → Good s (closing s c by)
-  unfolding closing read pick fieldsOf aside _or_
+  unfolding closing readIn handleIn settledBlock pick fieldsOf aside _or_
   closing-good c by h =
       channel-changed (closedEvent c by) [] c 0 h (omega arith) (closed-fits _ c next-number h by) (λ v. refl) short-empty refl refl (λ number ps. unfold readPeers in refl) (closed-needs _ _ c by)
 
@@ -137,11 +163,11 @@ module _ (s : List ℕ) (g : Given s) where
   initiated-good c major h m =
       on-pick (Good s) _ _ _
       (λ e.
-      unfold read pick fieldsOf aside _or_ in
+      unfold readIn handleIn settledBlock pick fieldsOf aside _or_ in
       (channel-changed (readyEvent c) (initAck 0) c 1 h (omega arith) (ready-fits _ c next-number h) (λ v. refl) (initAck-short 0) refl refl (λ number ps. unfold readPeers in refl) (ready-needs _ _ c)))
       (λ e.
       channel-changed (versionRefusedEvent c major) _ c 0 h (omega arith) (version-fits _ c next-number h major m)
-      (λ v. unfold read pick fieldsOf in refl)
+      (λ v. unfold readIn handleIn settledBlock pick fieldsOf in refl)
       (initNack-short _)
       (unfold aside _or_ in refl)
       refl
@@ -149,13 +175,13 @@ module _ (s : List ℕ) (g : Given s) where
       (version-needs _ _ c major))
 
   pub noting-good : (c type : ℕ) (reply : List ℕ) → c < channelCount → readyAt s c ≡ 1 → length reply ≤ outputBytes → Good s (noting s c type reply)
-  unfolding noting read pick fieldsOf aside _or_
+  unfolding noting readIn handleIn settledBlock pick fieldsOf aside _or_
   noting-good c type reply h ready f =
       unchanged (notedEvent c type) reply (noted-fits _ c next-number h type) (λ v. refl) f refl refl (noted-needs _ _ c type (shows-open s c h ready))
 
   -- 5: the handle is that of the offer
   pub registered-good : (c v minor handle : ℕ) → c < channelCount → readyAt s c ≡ 1 → v < serviceCount → minor ≤ highestMinor → stageAt s (placeOf c v) ≡ stageOffered → handleAt s (placeOf c v) ≡ handle → Good s (effect (registeredEvent c v minor handle) (withRegistered s c v handle minor) [])
-  unfolding read pick fieldsOf stageOf
+  unfolding readIn handleIn settledBlock pick fieldsOf stageOf
   registered-good c v minor handle h ready l m st q =
       let k : placeOf c v < placeCount = omega arith in
       let u : Live (stageAt s (placeOf c v)) (handleAt s (placeOf c v)) (readyAt s (placeOf c v / serviceCount)) (lastOf s + 1) =
@@ -183,7 +209,7 @@ module _ (s : List ℕ) (g : Given s) where
   not-acknowledged-good c handle h ready =
       on-first (λ x. Good s (notAcknowledged s c x)) serviceCount (offeredAs s c handle)
       (λ v r.
-      unfold notAcknowledged read pick fieldsOf stageOf aside _or_ in
+      unfold notAcknowledged readIn handleIn settledBlock pick fieldsOf stageOf aside _or_ in
       (idled (offerRefusedEvent c v) [] c v h (r .below) (refused-fits _ c next-number h v (r .below)) (λ x. refl) short-empty refl refl
       (refused-needs _ _ c v (shows-open s c h ready)
       (shows-test s c h v (r .below) isOffered (offered-here s (placeOf c v) (eqb-true _ stageOffered (both _ _ (r .passes) .0)))))))
@@ -191,14 +217,14 @@ module _ (s : List ℕ) (g : Given s) where
 
   -- 7, of UNREG and of withdraw
   pub ended-good : (c v : ℕ) (reply : List ℕ) → c < channelCount → readyAt s c ≡ 1 → v < serviceCount → (stageAt s (placeOf c v) ≡ stageIdle → ⊥) → length reply ≤ outputBytes → Good s (effect (serviceEndedEvent c v) (withIdle s c v) reply)
-  unfolding read pick fieldsOf stageOf aside _or_
+  unfolding readIn handleIn settledBlock pick fieldsOf stageOf aside _or_
   ended-good c v reply h ready l live f =
       idled (serviceEndedEvent c v) reply c v h l (ended-fits _ c next-number h v l) (λ x. refl) f refl refl
       (ended-needs _ _ c v (shows-open s c h ready) (shows-test s c h v l isLive (live-here s (placeOf c v) live)))
 
   -- 4: the handle is above every other
   pub offering-good : (c v : ℕ) → c < channelCount → v < serviceCount → readyAt s c ≡ 1 → stageAt s (placeOf c v) ≡ stageIdle → Good s (offering s c v)
-  unfolding offering read pick fieldsOf stageOf
+  unfolding offering readIn handleIn settledBlock pick fieldsOf stageOf
   offering-good c v h l ready st =
       let k : placeOf c v < placeCount = omega arith in
       let four : placeOf c v / serviceCount ≡ c = omega arith in

@@ -19,7 +19,7 @@ use Rattle.model.specs.Peers.{idsKeep, peersBelow, peersSound}
 use Rattle.model.specs.State.{serviceSound, roomAt, removalRoom, collectedSound, resultSound, resultsSound, ordersSound, sound}
 use Rattle.model.specs.Reading.{Stage, idle, offered, registered, Order, noOrder, shutdown, panic, Peer, noPeer, peer}
 use Rattle.model.proofs.OrderEffects.{order-test}
-use Rattle.model.specs.Encoding.{Told, LiveAs, isOffered, isRegistered, blockTold, CollectedTold, nothing, below, ResultTold, ok, nowork, RemovalTold, SoundTold, SaysService, SaysRemoval, Says, stageTold, handleTold, minorTold, servicesTold, removalTold, SaysOrder, orderTold, delayTold, ordersTold, PeerTold, markTold, peersCount, SaysPeer, peerWordTold, peersTold, lowTold, wordsTold, EncodingHolds}
+use Rattle.model.specs.Encoding.{Told, LiveAs, isOffered, isRegistered, blockTold, CollectedTold, nothing, below, ResultTold, ok, nowork, RemovalTold, SoundTold, SaysService, SaysRemoval, Says, stageTold, handleTold, minorTold, servicesTold, removalTold, SaysOrder, orderTold, delayTold, ordersTold, markTold, peersCount, SaysPeer, peerWordTold, peersTold, lowTold, wordsTold, EncodingHolds}
 use Rattle.model.proofs.Choice.{clash, every-make, first-same, first-facts, pick-true, pick-false, tabulate-at, tabulate-length}
 use Rattle.model.proofs.Words.{Arrays, sets-below, sets-above, sets-at, service-frame, service-length, service-word, counts-frame, counts-length, last-counts, held-counts, removal-frame, removal-above, removal-length, removal-back, head-back}
 use Rattle.model.proofs.View.{block-same}
@@ -262,6 +262,7 @@ accepted-said s t w f =
       base = base-said s t w f;
       removal = removes-said s t w f;
       counts = record {
+        some = rw (w .last) (f .some);
         lasts = rw (w .last) (f .lasts);
         helds = rw (w .held) (f .helds);
         numbered = rw (w .held, w .last) (f .numbered);

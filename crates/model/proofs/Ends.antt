@@ -17,9 +17,9 @@ use Rattle.model.specs.declared.Found.{Found}
 use Rattle.model.specs.declared.Found.the-variants.{At, Nowhere}
 use Rattle.model.specs.declared.Removal.{Removal}
 use Rattle.model.specs.Layout.{Block, blockAt, blocksOf, lastOf, heldOf, outstandingOf, removalOf, withCounts, mostBlocks, stateWords, blockIn, blockWords}
-use Rattle.model.specs.Blocks.{Lists, namedBlock, setupState, namedIn}
+use Rattle.model.specs.Blocks.{Lists, namedBlock, namedIn}
 use Rattle.model.specs.State.{collectedSound, removalRoom, roomAt}
-use Rattle.model.specs.Journal.{kindBegun, kindCollected, kindRemovalEnd, entriesAt}
+use Rattle.model.specs.Journal.{kindMark, markEvent, entryOf, eventOf, fieldsOf, kindBegun, kindCollected, kindRemovalEnd}
 use Rattle.model.specs.Memory.{marked, addrIn, sizeIn}
 use Rattle.model.specs.Messages.{Effect}
 use Rattle.model.specs.Work.{addrNow, sizeNow, settled, collecting, working}
@@ -28,7 +28,7 @@ use Rattle.model.specs.Reading.{View, setupView}
 use Rattle.model.specs.Demand3.{Run, Done, after, newRun, runs, entries, noted}
 use Rattle.model.specs.Contracts.{AllMeet, OfEveryList}
 use Rattle.model.specs.Repeats.{addressAt, sizeAt, requestIn}
-use Rattle.model.specs.Ends.{pagesAt, pagesOfFirst, pagesNamed, isWork, stepsBy, stepsIn, notesBy, endsIn, Ends, pagesListed, pagesAsked}
+use Rattle.model.specs.Ends.{pagesAt, pagesOfFirst, pagesNamed, isWork, stepsBy, stepsIn, notesBy, endsIn, Ends, pagesListed, pagesAsked, told, SettledOk}
 use Rattle.model.proofs.Choice.{clash, both, on-pick, or-false, and-false-right}
 use Rattle.model.proofs.Rules.{sound-facts, block-rules}
 use Rattle.model.proofs.Sounds.{named-less}
@@ -42,10 +42,10 @@ use Rattle.model.proofs.Calls.{Taken, taken, in-range, on-act, on-drain
 use Rattle.model.proofs.Lists.{Kept, meets-outcome, kept-doing, meets-doing, on-list}
 use Rattle.model.proofs.Kept.{noted-is}
 use Rattle.model.proofs.Settled.{counted-blocks, counted-removal, accepted-removal}
-use Rattle.model.proofs.Setup.{Starts, starts}
-use Rattle.model.proofs.AddsUp.{Adding, adding-call, paging}
+use Rattle.model.proofs.Setup.{markedState, Starts, starts}
+use Rattle.model.proofs.AddsUp.{added-more, Adding, adding-call, paging}
 use Rattle.model.proofs.Repeats.{repeats}
-use Rattle.model.proofs.Demand3.{First, at-first, kept-meeting, meets-before, meets-here, meets-after}
+use Rattle.model.proofs.Demand3.{mark-back, First, at-first, kept-meeting, meets-before, meets-here, meets-after}
 
 -- Pages of records.
 module _ (s t : List ℕ) (b : SameSizes s t) where
@@ -215,7 +215,7 @@ module _ (s j : List ℕ) (size : length s ≡ stateWords) (few : blocksOf s ≤
   call-fewer : (call : Call) → notesBy kindRemovalEnd call (outcome s j call) ≡ false → Fewer s call (outcome s j call)
   call-fewer (act a out) =
       on-act (λ r. notesBy kindRemovalEnd (act a out) r ≡ false → Fewer s (act a out) r) s j out a (act-fewer a out)
-      (λ n _. record { still = unfold refused in o; steps = unfold refused stepsBy in rw (ne-eqb _ 0 n, and-false-right (isWork a) false refl) (unfold pick in (omega arith)) })
+      (λ n _. record { still = unfold refused in o; steps = unfold stepsBy refused in rw (ne-eqb _ 0 n, and-false-right (isWork a) false refl) (unfold pick in (omega arith)) })
   call-fewer (drain run) =
       on-drain (λ r. notesBy kindRemovalEnd (drain run) r ≡ false → Fewer s (drain run) r) s j run
       (λ z n less e _.
@@ -223,7 +223,7 @@ module _ (s j : List ℕ) (size : length s ≡ stateWords) (few : blocksOf s ≤
         still = unfold drained in (counted-removal s (lastOf s) (heldOf s - n) .outstanding ∙ o);
         steps = unfold drained stepsBy in rw (counted-left s (lastOf s) (heldOf s - n) few) (omega arith);
       })
-      (λ z _. record { still = unfold refused in o; steps = unfold refused stepsBy in (omega arith) })
+      (λ z _. record { still = unfold refused in o; steps = unfold stepsBy refused in (omega arith) })
 
 aside-begun : (kind : ℕ) → aside kind ≡ true → kind ≡ kindBegun → ⊥
 unfolding aside _or_
@@ -306,17 +306,25 @@ has-ended b u before between later a out r k m z h p = go (endsIn between) refl
         let f = list-fewer b (after (runs u before) d) between all next (ap outstandingOf (after-state (runs u before) d) ∙ one) e in
         absurd (omega (arith, f, ap left (after-state (runs u before) d), left-most (r .state)))
 
+-- the mark settles nothing
+mark-kind : told (entryOf 1 markEvent) .kind ≡ kindMark
+unfolding eventOf
+mark-kind = rw mark-back (unfold fieldsOf in refl)
+
+not-settled : SettledOk (entryOf 1 markEvent) → ⊥
+not-settled x = omega (arith, mark-kind, x .isSettled)
+
 -- before any call
 adding-first : (l : Lists) (s j : List ℕ) → First l s j → Adding l (newRun s j)
-adding-first l s j f = rw (f .state) (first (starts l (f .accepted)))
+adding-first l s j f = rw (f .state) (first (starts l (f .accepted)) (rw (f .state) at (f .entry)))
   where
-    first : Starts l → Adding l (newRun (setupState l) j)
-    first x = record {
+    first : Starts l → entries (newRun (markedState l) j) ≡ entryOf 1 markEvent ∷ [] → Adding l (newRun (markedState l) j)
+    first x entry = record {
       count = x .counted;
       pages = λ i h. ap (λ (b : Block). b .pages) (x .given i (omega (arith, x .counted)));
       named = x .named;
       since = λ o c. absurd (omega (arith, o, x .outstanding));
-      added = unfold entries entriesAt in (λ i h. absurd (not-suc-le-zero h));
+      added = rw entry (added-more l [] (entryOf 1 markEvent) (λ i h. absurd (not-suc-le-zero h)) (λ x. absurd (not-settled x)));
     }
 
 -- the sizes of blocks after an accepted action
@@ -347,8 +355,8 @@ module _ (l : Lists) (t : List ℕ) (m : Removal) (b : List ℕ) (n : ℕ)
       rw (asked-pages k (omega arith), addresses k (omega arith), sizes k (omega arith), ← named (addrIn b k) (sizeIn b k), listed-pages (namedBlock t (addrIn b k) (sizeIn b k)) (addrIn b k) (sizeIn b k) refl)
 
 pub removals-end : OfEveryList Ends
-removals-end l r j ds e z m =
-    let f′ = at-first l r j e z in
+removals-end l r j₀ j ds e z m =
+    let f′ = at-first l r j₀ j e z in
     record {
       ends =
           λ before between later a out o q y k p.
@@ -357,7 +365,7 @@ removals-end l r j ds e z m =
           λ before later c handle msg out o n q a f none.
           let m′ = rw q at m in
           let w = on-list (setupView l) (Adding l) (λ u k q. adding-call l (setupView l) u k q) (newRun (r .state) j) before (meets-before (newRun (r .state) j) before _ m′) (f′ .kept) (adding-first l (r .state) j f′) in
-          let x = repeats l r j ds e z m .begins before later c handle msg out o n q a f none in
+          let x = repeats l r j₀ j ds e z m .begins before later c handle msg out o n q a f none in
           let y = accepted-sizes (runs (newRun (r .state) j) before .state) (runs (newRun (r .state) j) before .journal) out (receive c msg) o (w .0 .size) (meets-outcome (meets-here (newRun (r .state) j) before _ later m′)) (a .accepted) in
           ap (pagesOfFirst (o .state) (removalOf (o .state))) (x .count)
           ∙ asked-pages l (o .state) (removalOf (o .state)) (requestIn msg) n

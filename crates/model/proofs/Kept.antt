@@ -3,17 +3,18 @@
 use Prim.Native.Nat.{ℕ, _+_, _-_, _*_, _/_, _≤_, min}
 use native.Mathlib.Omega.{arith}
 use mathlib.Core.Path.{_≡_, refl, sym, _∙_}
-use mathlib.Core.Bool.{true}
+use mathlib.Core.Bool.{Bool, true, false}
+use lib.Dec.{eqb}
+use borrow.Author.Tests.{eqb-true, eqb-false}
 use mathlib.Core.List.{List, [], _∷_}
-use lib.ListN.{length, drop, length-append, length-drop}
+use lib.ListN.{getD, length, drop, length-append, length-drop}
 use lib.Seq.{take-at, drop-at, drop-append-seam}
 use Rattle.wire.specs.BigEndian.{written}
-use Rattle.model.specs.declared.Started.{Started}
 use Rattle.model.specs.State.{sound}
 use Rattle.model.specs.Messages.{Effect}
-use Rattle.model.specs.Calls.{Call, act, drain, Action, accepted, drained, effectOf, outcome, pagesOf, refused, started}
+use Rattle.model.specs.Calls.{Call, act, drain, Action, accepted, drained, effectOf, outcome, pagesOf, refused, SetUp, setupRefusal, setUp}
 use Rattle.model.specs.Demand3.{Run, after, doing, history, noted, runs, start}
-use Rattle.model.specs.Kept.{SoundnessKept, CallsKept, DrainKept, EntryAdded, RefusalKept, RemovalKept, bufferOf}
+use Rattle.model.specs.Kept.{SoundnessKept, SetupKept, CallsKept, DrainKept, EntryAdded, RefusalKept, RemovalKept, bufferOf}
 use Rattle.model.proofs.Choice.{on-pick}
 use Rattle.model.proofs.Words.{counts-length, last-counts, held-counts, removal-back, removal-again}
 use Rattle.model.proofs.View.{shape-moves}
@@ -24,9 +25,9 @@ use Rattle.model.proofs.Effects.{shape}
 use Rattle.model.proofs.Calls.{Taken, taken, on-act, on-drain}
 use Rattle.model.proofs.Above.{turn-keeps, turn-orders}
 use Rattle.model.proofs.Peers.{ids-same}
-use Rattle.model.proofs.Setup.{starts, empty-accepted}
-use Rattle.model.specs.Journal.{entriesAt, entryOf, fieldsOf, wordsOf}
-use Rattle.model.specs.Blocks.{Lists, noLists}
+use Rattle.model.proofs.Setup.{markedState, setup-accepts, starts, empty-last}
+use Rattle.model.specs.Journal.{markEvent, stored, entriesAt, entryOf, fieldsOf, wordsOf}
+use Rattle.model.specs.Blocks.{Lists, noLists, setupState}
 use Rattle.model.specs.Layout.{entryWords, heldOf, lastOf, stateWords}
 
 -- An accepted action.
@@ -42,7 +43,7 @@ module _ (s j out : List ℕ) (pages : ℕ) (e : Effect) (t : Taken s j out e) w
             (turn-keeps s (t .given .size) (t .given .facts .devices) e (g .above))
             (turn-orders s (t .given .size) (t .given .facts .devices) e (t .given .facts .orders) (g .above))
             (ids-same s (e .state) (g .peers .ids) (t .given .facts .ids)) (g .peers .sounds)
-            (omega (arith, t .given .number)) (omega (arith, t .room)) (omega (arith, t .given .facts .counts .numbered)),
+            (omega arith) (omega (arith, t .given .number)) (omega (arith, t .room)) (omega (arith, t .given .facts .counts .numbered)),
         counts-length (e .state) _ _ ∙ new-size,
       )
 
@@ -85,7 +86,7 @@ module _ (s j run : List ℕ) (size : length s ≡ stateWords) (good : sound s �
   drained-sound =
       let f = sound-facts s good in
       let c = f .counts in (
-        sound-counted s (lastOf s) (heldOf s - n) size (f .base) (f .removal) (f .devices) (f .orders) (f .ids) (f .peers) (c .lasts) (omega (arith, c .helds)) (omega (arith, c .numbered)),
+        sound-counted s (lastOf s) (heldOf s - n) size (f .base) (f .removal) (f .devices) (f .orders) (f .ids) (f .peers) (c .some) (c .lasts) (omega (arith, c .helds)) (omega (arith, c .numbered)),
         counts-length s _ _ ∙ size,
       )
 
@@ -154,12 +155,33 @@ call-sound s j (drain run) size good =
     (λ z n few e. drained-sound s j run size good n few)
     (λ z. unfold refused in (good, size))
 
-setup-kept : (l : Lists) → (sound (started l .state) ≡ true) × (length (started l .state) ≡ stateWords)
-unfolding started
-setup-kept l =
-    on-pick (λ (r : Started). (sound (r .state) ≡ true) × (length (r .state) ≡ stateWords)) _ _ _
-    (λ e. let s = starts l e in (s .sounds, s .size))
-    (λ e. let s = starts noLists empty-accepted in (s .sounds, s .size))
+-- an accepted setup, and a refused one
+set-up : (l : Lists) (j : List ℕ) → (P : SetUp → Type 0) → (setupRefusal l (length j) ≡ 0 → P (record { refusal = 0; state = markedState l; journal = stored j 1 (entryOf 1 markEvent) })) → ((setupRefusal l (length j) ≡ 0 → ⊥) → P (record { refusal = setupRefusal l (length j); state = setupState noLists; journal = j })) → P (setUp l j)
+unfolding setUp
+set-up l j P took refused′ = on-pick P (eqb (setupRefusal l (length j)) 0) _ _ (λ e. took (eqb-true _ 0 e)) (λ e. refused′ (eqb-false _ 0 e))
+
+setup-kept : (l : Lists) (j : List ℕ) → setUp l j .refusal ≡ 0 → (sound (setUp l j .state) ≡ true) × (length (setUp l j .state) ≡ stateWords)
+setup-kept l j =
+    set-up l j (λ r. r .refusal ≡ 0 → (sound (r .state) ≡ true) × (length (r .state) ≡ stateWords))
+    (λ e z. let s = starts l (setup-accepts l (length j) e .1) in (s .sounds, s .size))
+    (λ n z. absurd (n z))
+
+-- the empty state has no last number
+empty-unsound : sound (setupState noLists) ≡ false
+empty-unsound = go (sound (setupState noLists)) refl
+  where
+    go : (b : Bool) → sound (setupState noLists) ≡ b → b ≡ false
+    go true e = absurd (none (sound-facts (setupState noLists) e .counts .some))
+      where
+        none : 1 ≤ lastOf (setupState noLists) → ⊥
+        none h = let z = empty-last in omega (arith, h, z)
+    go false e = refl
+
+setup-refused : (l : Lists) (j : List ℕ) → (setUp l j .refusal ≡ 0 → ⊥) → sound (setUp l j .state) ≡ false
+setup-refused l j =
+    set-up l j (λ r. (r .refusal ≡ 0 → ⊥) → sound (r .state) ≡ false)
+    (λ e n. absurd (n refl))
+    (λ n z. empty-unsound)
 
 runs-sound : (calls : List Call) (u : Run) → sound (u .state) ≡ true → length (u .state) ≡ stateWords → sound (runs u (history u calls) .state) ≡ true
 unfolding runs history
@@ -168,13 +190,19 @@ runs-sound (call ∷ calls) u good size =
     let r = call-sound (u .state) (u .journal) call size good in
     runs-sound calls (after u (doing u call)) (unfold after in (r .0)) (unfold after in (r .1))
 
-list-sound : (l : Lists) (j : List ℕ) (calls : List Call) → sound (runs (start l j) (history (start l j) calls) .state) ≡ true
-list-sound l j calls =
-    let s = setup-kept l in
+list-sound : (l : Lists) (j : List ℕ) (calls : List Call) → setUp l j .refusal ≡ 0 → sound (runs (start l j) (history (start l j) calls) .state) ≡ true
+list-sound l j calls z =
+    let s = setup-kept l j z in
     runs-sound calls (start l j) (unfold start in (s .0)) (unfold start in (s .1))
 
 pub soundness-kept : SoundnessKept
-soundness-kept = record { bySetup = setup-kept; byCall = call-sound; byList = list-sound }
+soundness-kept = record { bySetup = setup-kept; refusedSetup = setup-refused; byCall = call-sound; byList = list-sound }
+
+pub setup-keeps : SetupKept
+setup-keeps = record {
+  refusedJournal = λ l j. set-up l j (λ r. (r .refusal ≡ 0 → ⊥) → r .journal ≡ j) (λ e n. absurd (n refl)) (λ n z. refl);
+  otherSlots = λ l j i p r. set-up l j (λ u. getD (u .journal) i 0 ≡ getD j i 0) (λ e. stored-else j 1 i (entryOf 1 markEvent) p r) (λ n. refl);
+}
 
 pub removal-kept : RemovalKept
 removal-kept = record {

@@ -1,6 +1,7 @@
 pub mod Choice
 pub mod Loops
 pub mod Words
+pub mod RemovalWords
 pub mod Devices
 pub mod Above
 pub mod Peers
@@ -11,6 +12,7 @@ pub mod Sounds
 pub mod Turns
 pub mod Ring
 pub mod Mask
+pub mod SettledWord
 pub mod Events
 pub mod Replies
 pub mod Needs

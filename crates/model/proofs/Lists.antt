@@ -16,19 +16,19 @@ use Rattle.model.specs.declared.Event.{Event}
 use Rattle.model.specs.State.{sound}
 use Rattle.model.specs.Messages.{Effect}
 use Rattle.model.specs.Calls.{Call, act, drain, Action, Outcome, accepted, drained, effectOf, outcome, pagesOf, refusalOf, refused}
-use Rattle.model.specs.Reading.{View, read, readEntry, reading, viewOf}
+use Rattle.model.specs.Reading.{readingIn, View, read, readEntry, reading, viewOf}
 use Rattle.model.specs.Demand3.{Run, Done, after, doing, drainedBy, entries, noEntry, numberedBy, runs}
 use Rattle.model.specs.Contracts.{Meets, answers, works, takes, drains, AllMeet}
 use Rattle.model.proofs.Words.{counts-length, last-counts, held-counts}
 use Rattle.model.proofs.View.{shape-moves, counts-view}
 use Rattle.model.proofs.Rules.{sound-facts}
 use Rattle.model.proofs.Sounds.{sound-counted}
-use Rattle.model.proofs.Peers.{PeerTurn, ids-same}
+use Rattle.model.proofs.Peers.{ids-same}
 use Rattle.model.proofs.Above.{turn-keeps, turn-orders}
 use Rattle.model.proofs.Ring.{fields-back, stored-same, stored-run, entries-snoc, entries-split, length-entries, entries-in, reading-append}
 use Rattle.model.proofs.Effects.{shape}
 use Rattle.model.proofs.Calls.{Taken, taken, on-act, on-drain}
-use Rattle.model.specs.Journal.{Entry, entriesAt, entryAt, entryOf, fieldsOf, stored}
+use Rattle.model.specs.Journal.{newEdition, Entry, entriesAt, entryAt, entryOf, fieldsOf, stored}
 use Rattle.model.specs.Layout.{heldOf, lastOf, stateWords, withCounts}
 
 -- entries numbered from 1 without gap or repeat, n in all, whose reading, begun from b, is v
@@ -46,8 +46,8 @@ pub record Kept (b : View) (u : Run) : Type 0 where
   pub listed : Listed b (entries u) (u .number) (viewOf (u .state))
 
 -- one entry more
-listed-more : (b : View) (es : List Entry) (n : ℕ) (v w : View) (e : Event) → Listed b es n v → unpacked (entryOf (n + 1) e .first) ≡ fieldsOf (n + 1) e → read (fieldsOf (n + 1) e) (e .word) v ≡ w → Listed b (es ++ entryOf (n + 1) e ∷ []) (n + 1) w
-unfolding reading readEntry
+pub listed-more : (b : View) (es : List Entry) (n : ℕ) (v w : View) (e : Event) → Listed b es n v → unpacked (entryOf (n + 1) e .first) ≡ fieldsOf (n + 1) e → read (fieldsOf (n + 1) e) (e .word) v ≡ w → Listed b (es ++ entryOf (n + 1) e ∷ []) (n + 1) w
+unfolding readingIn readEntry
 listed-more b es n v w e l f q =
     let x : Entry = entryOf (n + 1) e in
     record {
@@ -55,7 +55,7 @@ listed-more b es n v w e l f q =
       numbered = λ i h. at i (leb n i) refl h;
       reads =
           reading-append b es (x ∷ [])
-          ∙ ap (λ (k : View). readEntry k x) (l .reads)
+          ∙ ap (λ (k : View). readEntry newEdition k x) (l .reads)
           ∙ rw f (second ∙ q);
     }
   where
@@ -121,7 +121,7 @@ kept-grown b u e out k t =
           (turn-orders (u .state) (t .given .size) (t .given .facts .devices) e (t .given .facts .orders) (g .above))
           (ids-same (u .state) (e .state) (g .peers .ids) (t .given .facts .ids))
           (g .peers .sounds)
-          (omega (arith, t .given .number)) (omega (arith, t .room)) (omega (arith, c .numbered));
+          (omega arith) (omega (arith, t .given .number)) (omega (arith, t .room)) (omega (arith, c .numbered));
       last = l ∙ ap (λ (n : ℕ). n + 1) (k .last);
       held = rw h (omega (arith, k .held));
       listed =
@@ -159,7 +159,7 @@ kept-shifted b u n h k =
       size = counts-length (u .state) _ _ ∙ k .size;
       sounds =
           sound-counted (u .state) (lastOf (u .state)) (heldOf (u .state) - n) (k .size) (f .base) (f .removal) (f .devices) (f .orders) (f .ids) (f .peers)
-          (c .lasts) (omega (arith, c .helds)) (omega (arith, c .numbered));
+          (c .some) (c .lasts) (omega (arith, c .helds)) (omega (arith, c .numbered));
       last = last-counts (u .state) _ _ (k .size) ∙ k .last;
       held = rw m (simp (length-append, length-entries) (omega (arith, k .held)));
       listed =

@@ -7,9 +7,9 @@ use Rattle.model.proofs.Ends.{removals-end}
 use Rattle.model.proofs.Replay.{passes}
 
 pub lists-hold : ListsHold
-lists-hold l r j ds e z m = record {
-  demand3 = demand3 l r j ds e z m;
-  repeats = repeats l r j ds e z m;
-  ends = removals-end l r j ds e z m;
-  passes = passes l r j ds e z m;
+lists-hold l r j₀ j ds e z m = record {
+  demand3 = demand3 l r j₀ j ds e z m;
+  repeats = repeats l r j₀ j ds e z m;
+  ends = removals-end l r j₀ j ds e z m;
+  passes = passes l r j₀ j ds e z m;
 }

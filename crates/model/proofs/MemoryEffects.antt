@@ -17,10 +17,10 @@ use Rattle.model.specs.declared.Request.{Request}
 use Rattle.model.specs.declared.Request.the-variants.{Configure, Unconfigure, Query, Status, Cancel, Malformed}
 use Rattle.model.specs.Layout.{memoryService, deviceCountWord, stateWords, blocksOf, blockAt, lastOf, outstandingOf, isSet, removalOf, withConfigured, withRemoval, withNumber, lastWord, mostBlocks, mostRecords, outputBytes, outstandingWord, noBlock, channelCount}
 use Rattle.model.specs.State.{removalRoom, collectedSound, resultsSound}
-use Rattle.model.specs.Journal.{fieldsOf, answeredEvent, configuredEvent, cancelledEvent, begunEvent, codeBlocked, codeError, codeNone, kindNoted}
+use Rattle.model.specs.Journal.{fieldsOf, answeredEvent, configuredEvent, cancelledEvent, begunEvent, codeBlocked, codeError, codeNone}
 use Rattle.model.specs.Messages.{Effect, effect}
 use Rattle.model.specs.Memory.{argumentOf, addrIn, sizeIn, hasRecords, requestOf, requestNumber, memoryReply, answering, answeringError, blocked, Progress, oneFailed, oneConfigured, oneUnchanged, configureOne, configuredBy, configureReply, answeringConfigure, beginning, querying, reporting, marked, cancelling, requested, answeredMemory, DR-MEM-OK, configureAt, newRemoval}
-use Rattle.model.specs.Reading.{View, removing, read, seeBlocks, configuredIn, markedRemoval, blocksShown, removalShown, viewOf, seeRemoval}
+use Rattle.model.specs.Reading.{handleIn, readIn, settledBlock, View, removing, seeBlocks, configuredIn, markedRemoval, blocksShown, removalShown, viewOf, seeRemoval}
 use Rattle.model.proofs.Choice.{on-pick, both, tabulate-at, tabulate-length}
 use Rattle.model.proofs.Words.{Agree, Arrays, loaded-arrays, configured-frame, removal-above, removal-frame}
 use Rattle.model.proofs.Above.{leavesAbove}
@@ -162,7 +162,7 @@ module _ (s : List ℕ) (g : Given s) where
 
   -- 10 and 11, of a CONFIGURE
   configure-good : (c handle request : ℕ) (b : List ℕ) (n : ℕ) (p : Progress) → Reaches s c → n ≤ mostRecords → outstandingOf s ≡ 0 → Configures s p → Good s (answeringConfigure p c handle request b n)
-  unfolding answeringConfigure answering fieldsOf read pick seeBlocks aside _or_
+  unfolding answeringConfigure answering fieldsOf readIn handleIn settledBlock pick seeBlocks aside _or_
   configure-good c handle request b n p h few o r =
       on-pick (Good s) _ _ _
       (λ e.
@@ -192,7 +192,7 @@ module _ (s : List ℕ) (g : Given s) where
 
   -- 12
   begun-good : (c handle request : ℕ) (b : List ℕ) (n : ℕ) → Reaches s c → Ours 0 (lastOf s + 1) handle → 1 ≤ n → n ≤ mostRecords → outstandingOf s ≡ 0 → Good s (beginning s c handle request b n)
-  unfolding beginning fieldsOf read pick newRemoval every resultsSound
+  unfolding beginning fieldsOf readIn handleIn settledBlock pick newRemoval every resultsSound
   begun-good c handle request b n h u some few o =
       removal-changed (begunEvent c n request) [] (newRemoval c handle request b n)
       (new-arrays c handle request b n)
@@ -223,7 +223,7 @@ module _ (s : List ℕ) (g : Given s) where
 
   -- 13
   cancelled-good : (c request : ℕ) (reply : List ℕ) → Reaches s c → length reply ≤ outputBytes → isSet (outstandingOf s) ≡ true → Good s (effect (cancelledEvent c request) (withRemoval s (marked (removalOf s))) reply)
-  unfolding fieldsOf read pick marked markedRemoval resultsSound
+  unfolding fieldsOf readIn handleIn settledBlock pick marked markedRemoval resultsSound
   cancelled-good c request reply h f o =
       let a = loaded-arrays s in
       let m = removes-now s g o .facts in
@@ -247,7 +247,7 @@ module _ (s : List ℕ) (g : Given s) where
 
   -- The requests.
   answering-good : (c code request : ℕ) (reply : List ℕ) → Reaches s c → code < codeEnd → length reply ≤ outputBytes → Good s (answering s c code request reply)
-  unfolding answering fieldsOf read pick aside _or_
+  unfolding answering fieldsOf readIn handleIn settledBlock pick aside _or_
   answering-good c code request reply h k f =
       unchanged s g (answeredEvent c memoryService code request) reply (answered-fits _ c (next-number s g) (h .below) memoryService code request (omega arith) k) (λ v. refl) f refl refl (answered-needs _ _ c memoryService code request (h .ready) (h .shown))
 

@@ -11,24 +11,22 @@ use borrow.Author.Tests.{le-leb, eqb-true, eqb-false}
 use Rattle.wire.proofs.Laws.{number-bound}
 use Rattle.model.specs.Choice.{pick, _and_, _or_}
 use Rattle.model.specs.declared.Event.{Event}
-use Rattle.model.specs.Layout.{channelCount, serviceCount, shutdownService, panicService, firstPermissionWord, orderWord, delayWord, stateWords, orderNone, orderShutdown, orderPanic, highestDelay, wordOf, isSet, permissionAt, orderOf, delayOf, withPermission, withOrder, lastOf, blockCountWord, lastWord, heldWord, outputBytes, idCountWord}
+use Rattle.model.specs.Layout.{channelCount, serviceCount, shutdownService, panicService, firstPermissionWord, orderWord, delayWord, stateWords, orderNone, orderShutdown, orderPanic, highestDelay, wordOf, isSet, permissionAt, orderOf, delayOf, withPermission, withOrder, lastOf, outputBytes, idCountWord}
 use Rattle.model.specs.State.{ordersSound}
 use Rattle.model.specs.Orders.{DOMAIN-SHUTDOWN-SUCCESS, orderNumber, delayIn, notOrdered, ordering, orderingFor, answeredOrder, permitting, taking}
 use Rattle.model.specs.Journal.{orderedEvent, permittedEvent, takenEvent, kindDevice, fieldsOf, kindPeerRegistered}
 use Rattle.model.specs.Messages.{effect}
-use Rattle.model.specs.Reading.{View, read, viewOf, Order, shutdown, panic, orderShown, ordersShown, readOrders, seePermission, seeOrder}
+use Rattle.model.specs.Reading.{handleIn, readIn, settledBlock, View, Order, shutdown, panic, orderShown, ordersShown, readOrders, seePermission, seeOrder}
 use Rattle.model.proofs.Choice.{on-pick, both, join, or-true}
 use Rattle.model.proofs.Words.{Agree, permission-frame, permission-length, permission-word, order-frame, order-length, order-word, delay-word}
-use Rattle.model.proofs.View.{counted-view}
 use Rattle.model.proofs.Peers.{leavesPeers}
 use Rattle.model.proofs.Above.{setsOrders}
 use Rattle.model.proofs.Rules.{Given}
-use Rattle.model.proofs.Sounds.{base-same, removes-same}
-use Rattle.model.proofs.Turns.{leaves, aside, same-blocks, same-removal}
+use Rattle.model.proofs.Turns.{aside}
 use Rattle.model.proofs.Events.{Fits, codeEnd, ordered-fits, permitted-fits, taken-fits}
 use Rattle.model.proofs.Needs.{ordered-needs, permitted-needs, taken-needs}
 use Rattle.model.proofs.Replies.{short-empty, order-short}
-use Rattle.model.proofs.Effects.{Good, readBy, neededBy, shape, next-number, base-now, removes-now}
+use Rattle.model.proofs.Effects.{Good, readBy, neededBy, next-number, high-changed}
 
 -- sound permissions and a sound order, and back
 pub record OrderFacts (s : List ℕ) : Type 0 where
@@ -124,33 +122,13 @@ module _ (s : List ℕ) (size : length s ≡ stateWords) where
 -- Permissions and the order changed, and nothing else.
 module _ (s : List ℕ) (g : Given s) where
   orders-changed : (e : Event) (t reply : List ℕ) → length t ≡ length s → Agree s t 0 firstPermissionWord → Agree s t idCountWord stateWords → Fits (lastOf s + 1) e → ((v : View) → readBy s e v ≡ v) → length reply ≤ outputBytes → aside (e .kind) ≡ true → kindDevice < e .kind → e .kind < kindPeerRegistered → neededBy s e → ordersSound t ≡ true → ((number : ℕ) → ordersShown t ≡ readOrders (fieldsOf number e) (e .word) (ordersShown s)) → Good s (effect e t reply)
-  orders-changed e t reply size w x f r short a above under n o shown = record {
-    entry = f;
-    moves = record {
-      size = size;
-      blocks = w blockCountWord (omega arith) (omega arith);
-      last = w lastWord (omega arith) (omega arith);
-      held = w heldWord (omega arith) (omega arith);
-      view =
-          counted-view s t (shape s g) (record { size = size; under = λ j lo hi. w j lo (omega arith); over = λ j lo hi. w j (omega arith) (omega arith) })
-          ∙ sym (r (viewOf s));
-    };
-    fits = short;
-    base = base-same s t (lastOf s + 1) (λ j lo hi. w j lo (omega arith)) (base-now s g);
-    removal = removes-same s t (lastOf s + 1) (g .facts .base .few) (λ j lo hi. w j (omega arith) (omega arith)) (λ j lo hi. w j (omega arith) (omega arith)) (removes-now s g);
-    turn =
-        leaves
-        (same-blocks s t (g .facts .base .few) (λ j lo hi. w j (omega arith) (omega arith)))
-        (same-removal s t (λ j lo hi. w j (omega arith) (omega arith)))
-        a;
-    need = n;
-    above = setsOrders (λ j lo hi. w j (omega arith) hi) o above shown;
-    peers = leavesPeers s (effect e t reply) (g .facts .peers) (λ j lo hi. w j lo (omega arith)) x (omega arith) under;
-  }
+  orders-changed e t reply size w x f r short a above under n o shown =
+      high-changed s g e t reply size (λ j lo hi. w j lo (omega arith)) f r short a n (setsOrders (λ j lo hi. w j (omega arith) hi) o above shown)
+      (leavesPeers s (effect e t reply) (g .facts .peers) (λ j lo hi. w j lo (omega arith)) x (omega arith) under)
 
   -- 21, and no order left
   not-ordered-good : (c handle v request result : ℕ) (reason : List ℕ) → c < channelCount → v < serviceCount → result < codeEnd → eqb result 0 ≡ false → length reason ≤ 8 → Good s (notOrdered s c handle v request result reason)
-  unfolding notOrdered fieldsOf read pick aside _or_
+  unfolding notOrdered fieldsOf readIn handleIn settledBlock pick aside _or_
   not-ordered-good c handle v request result reason h l k bad short =
       orders-changed (orderedEvent c v result 0) s _ refl (λ j lo hi. refl) (λ j lo hi. refl) (ordered-fits _ c (next-number s g) h v result 0 l k) (λ x. refl)
       (order-short handle request result reason short) refl (omega arith) (omega arith) (ordered-needs _ _ c v result 0) (g .facts .orders)
@@ -158,7 +136,7 @@ module _ (s : List ℕ) (g : Given s) where
 
   -- 21, and an order left
   ordering-good : (c handle v request order delay : ℕ) → c < channelCount → v < serviceCount → order ≤ orderPanic → delay ≤ highestDelay → orderShown order delay ≡ pick (eqb v shutdownService) (shutdown delay) panic → Good s (ordering s c handle v request order delay)
-  unfolding ordering fieldsOf read aside _or_
+  unfolding ordering fieldsOf readIn handleIn settledBlock aside _or_
   ordering-good c handle v request order delay h l p q shown =
       orders-changed (orderedEvent c v DOMAIN-SHUTDOWN-SUCCESS delay) (withOrder s order delay) _ (order-length s order delay)
       (λ j lo hi. order-frame s order delay j (λ a b. omega arith))
@@ -185,7 +163,7 @@ module _ (s : List ℕ) (g : Given s) where
 
   -- 19
   pub permitting-good : (v : ℕ) (permitted : Bool) → shutdownService ≤ v → v < serviceCount → Good s (permitting s v permitted)
-  unfolding permitting fieldsOf read aside _or_
+  unfolding permitting fieldsOf readIn handleIn settledBlock aside _or_
   permitting-good v permitted p l =
       orders-changed (permittedEvent v (wordOf permitted)) (withPermission s v (wordOf permitted)) [] (permission-length s v (wordOf permitted))
       (λ j lo hi. permission-frame s v (wordOf permitted) j (λ q. omega arith))
@@ -201,7 +179,7 @@ module _ (s : List ℕ) (g : Given s) where
 
   -- 20
   pub taking-good : Good s (taking s)
-  unfolding taking fieldsOf read pick aside _or_
+  unfolding taking fieldsOf readIn handleIn settledBlock pick aside _or_
   taking-good =
       orders-changed takenEvent (withOrder s orderNone 0) [] (order-length s orderNone 0) (λ j lo hi. order-frame s orderNone 0 j (λ a b. omega arith)) (λ j lo hi. order-frame s orderNone 0 j (λ a b. omega arith))
       (taken-fits _ (next-number s g)) (λ x. refl) short-empty refl (omega arith) (omega arith) (taken-needs _ _ 0)

@@ -1,71 +1,45 @@
 -- The effects of what a peer registers, ends and sends to its services, as Effects.antt shows of each.
 -- Assumes nothing.
-use Prim.Native.Nat.{ℕ, _+_, _-_, _*_, _≤_, _<_, min}
+use Prim.Native.Nat.{ℕ, _+_, _-_, _≤_, _<_}
 use native.Mathlib.Omega.{arith}
-use mathlib.Core.Path.{_≡_, refl, sym, ap, _∙_}
+use mathlib.Core.Path.{_≡_, refl, sym, _∙_}
 use mathlib.Core.Bool.{Bool, true, false, not}
 use mathlib.Core.List.{List, []}
 use lib.ListN.{length}
-use lib.Dec.{eqb, leb, ltb}
-use borrow.Author.Tests.{leb-true, leb-false, eqb-true, eqb-false, not-true}
-use Rattle.wire.proofs.Laws.{number-bound}
+use lib.Dec.{eqb, leb}
+use borrow.Author.Tests.{leb-false, eqb-false, not-true}
 use Rattle.model.specs.Choice.{pick, _and_, _or_, isFound, firstBelow}
 use Rattle.model.specs.declared.Event.{Event}
-use Rattle.model.specs.declared.Found.{Found}
-use Rattle.model.specs.declared.Found.the-variants.{At, Nowhere}
-use Rattle.model.specs.Layout.{channelCount, firstPermissionWord, deviceCountWord, idCountWord, firstIdWord, firstPeerWord, stateWords, readyAt, lastOf, blockCountWord, lastWord, heldWord, outputBytes, mostIds, mostPeers, serviceCount, stageIdle, highestMinor, idsOf, idAt, peeredAt, withPeer, withoutPeer}
-use Rattle.model.specs.State.{ordersSound}
-use Rattle.model.specs.Peers.{topBit, idKeeps, isPeered, peeredAs, peerFor, peersBelow, listedId}
+use Rattle.model.specs.Layout.{channelCount, firstIdWord, firstPeerWord, readyAt, lastOf, outputBytes, mostIds, mostPeers, serviceCount, stageIdle, highestMinor, idsOf, idAt, peeredAt, withPeer, withoutPeer}
+use Rattle.model.specs.Peers.{topBit, isPeered, peeredAs, peerFor, peersBelow, listedId}
 use Rattle.model.specs.Devices.{sameName}
-use Rattle.model.specs.Journal.{peerRegisteredEvent, peerEndedEvent, peerDataEvent, kindOrdered, kindDevice, fieldsOf}
-use Rattle.model.specs.Messages.{effect, regHandle, regMajor, regMinor, regId, regAck, unregAck, notRegistering, idTaken, isDuplicate, registeringAt, registering, peerUnregistered, unregistered, liveAs, liveFor}
-use Rattle.model.specs.Reading.{View, read, viewOf, readPeers}
-use Rattle.model.proofs.Choice.{on-pick, on-first, both, or-false, clash, first-is}
+use Rattle.model.specs.Journal.{peerRegisteredEvent, peerEndedEvent, peerDataEvent, kindOrdered, fieldsOf}
+use Rattle.model.specs.Messages.{effect, regHandle, regId, regAck, unregAck, idTaken, isDuplicate, registeringAt, registering, peerUnregistered, unregistered, liveAs, liveFor}
+use Rattle.model.specs.Reading.{handleIn, readIn, settledBlock, View, readPeers}
+use Rattle.model.proofs.Choice.{on-pick, on-first, both, or-false, clash}
 use Rattle.model.proofs.Words.{Agree, peer-frame, peer-length, unpeer-frame, unpeer-length}
-use Rattle.model.proofs.View.{counted-view}
 use Rattle.model.proofs.Peers.{PeerTurn, id-facts, id-minor}
-use Rattle.model.proofs.PeerTurns.{makes, ends, Registration, unpeered, peered, Registrations, registrations}
+use Rattle.model.proofs.PeerTurns.{makes, ends, Registration, unpeered, peered, registrations}
 use Rattle.model.proofs.Above.{setsOrders, orders-kept, orders-shown-same, after-orders}
 use Rattle.model.proofs.Rules.{Given}
-use Rattle.model.proofs.Sounds.{base-same, removes-same}
-use Rattle.model.proofs.Turns.{leaves, aside, same-blocks, same-removal}
+use Rattle.model.proofs.Turns.{aside}
 use Rattle.model.proofs.Events.{Fits, peer-registered-fits, peer-ended-fits, peer-data-fits}
 use Rattle.model.proofs.Needs.{peer-registered-needs, peer-ended-needs, peer-data-needs}
 use Rattle.model.proofs.Replies.{short-empty, regAck-short, regNack-short, unregAck-short, unregNack-short}
-use Rattle.model.proofs.Effects.{Good, readBy, neededBy, shape, next-number, base-now, removes-now, noting-good, ended-good}
+use Rattle.model.proofs.Effects.{Good, readBy, neededBy, next-number, high-changed, noting-good, ended-good}
 
 -- Peer registrations changed, and nothing else.
 module _ (s : List ℕ) (g : Given s) where
   peers-changed : (e : Event) (t reply : List ℕ) → length t ≡ length s → Agree s t 0 firstPeerWord → Fits (lastOf s + 1) e → ((v : View) → readBy s e v ≡ v) → length reply ≤ outputBytes → aside (e .kind) ≡ true → kindOrdered < e .kind → neededBy s e → PeerTurn s (effect e t reply) → Good s (effect e t reply)
-  peers-changed e t reply size w f r short a above n x = record {
-    entry = f;
-    moves = record {
-      size = size;
-      blocks = w blockCountWord (omega arith) (omega arith);
-      last = w lastWord (omega arith) (omega arith);
-      held = w heldWord (omega arith) (omega arith);
-      view =
-          counted-view s t (shape s g) (record { size = size; under = λ j lo hi. w j lo (omega arith); over = λ j lo hi. w j (omega arith) (omega arith) })
-          ∙ sym (r (viewOf s));
-    };
-    fits = short;
-    base = base-same s t (lastOf s + 1) (λ j lo hi. w j lo (omega arith)) (base-now s g);
-    removal = removes-same s t (lastOf s + 1) (g .facts .base .few) (λ j lo hi. w j (omega arith) (omega arith)) (λ j lo hi. w j (omega arith) (omega arith)) (removes-now s g);
-    turn =
-        leaves
-        (same-blocks s t (g .facts .base .few) (λ j lo hi. w j (omega arith) (omega arith)))
-        (same-removal s t (λ j lo hi. w j (omega arith) (omega arith)))
-        a;
-    need = n;
-    above =
-        setsOrders (λ j lo hi. w j (omega arith) (omega arith)) (orders-kept s t (λ j lo hi. w j (omega arith) (omega arith)) (g .facts .orders)) (omega arith)
-        (λ number. orders-shown-same s t (λ j lo hi. w j (omega arith) (omega arith)) ∙ sym (after-orders number e _ above));
-    peers = x;
-  }
+  peers-changed e t reply size w f r short a above n x =
+      high-changed s g e t reply size (λ j lo hi. w j lo (omega arith)) f r short a n
+      (setsOrders (λ j lo hi. w j (omega arith) (omega arith)) (orders-kept s t (λ j lo hi. w j (omega arith) (omega arith)) (g .facts .orders)) (omega arith)
+      (λ number. orders-shown-same s t (λ j lo hi. w j (omega arith) (omega arith)) ∙ sym (after-orders number e _ above)))
+      x
 
   -- 24
   pub peer-data-good : (c : ℕ) → c < channelCount → Good s (effect (peerDataEvent c) s [])
-  unfolding fieldsOf read pick aside _or_
+  unfolding fieldsOf readIn handleIn settledBlock pick aside _or_
   peer-data-good c h =
       peers-changed (peerDataEvent c) s [] refl (λ j lo hi. refl) (peer-data-fits _ c (next-number s g) h) (λ x. refl) short-empty refl (omega arith) (peer-data-needs _ _ c)
       (record { ids = λ j lo hi. refl; sounds = g .facts .peers; reads = λ number. unfold readPeers in refl })
@@ -79,14 +53,14 @@ module _ (s : List ℕ) (g : Given s) where
     where
       ended : (c handle p : ℕ) → c < channelCount → p < mostIds → peeredAs s c handle p ≡ true → Good s (effect (peerEndedEvent c handle) (withoutPeer s c p) (unregAck handle))
       ended c handle p h l has =
-          unfold fieldsOf read pick aside _or_ in
+          unfold fieldsOf readIn handleIn settledBlock pick aside _or_ in
           (peers-changed (peerEndedEvent c handle) (withoutPeer s c p) (unregAck handle) (unpeer-length s c p) (λ j lo hi. unpeer-frame s c p j (λ q. omega arith))
           (peer-ended-fits _ c (next-number s g) h handle) (λ x. refl) (unregAck-short handle) refl (omega arith) (peer-ended-needs _ _ c handle)
           (ends s (g .size) c p h l _ handle refl (λ number ps. unfold readPeers in refl) (g .facts .peers) has))
 
   -- 22: an id that is listed and not registered there, under a handle that is fresh
   peer-registered-good : (c p minor handle : ℕ) → c < channelCount → readyAt s c ≡ 1 → p < idsOf s → minor ≤ idAt s p .minor → handle < topBit → ((q : ℕ) → q < mostIds → peeredAs s c handle q ≡ false) → isPeered s c p ≡ false → peersBelow s c mostIds < mostPeers → Good s (effect (peerRegisteredEvent c p minor handle) (withPeer s c p handle minor) (regAck handle minor))
-  unfolding fieldsOf read pick aside _or_
+  unfolding fieldsOf readIn handleIn settledBlock pick aside _or_
   peer-registered-good c p minor handle h ready l most low none free few =
       let ids = id-facts s firstIdWord (idsOf s) (g .facts .ids) in
       let b : p < mostIds = omega (arith, ids .few) in

@@ -2,8 +2,6 @@
 -- Assumes nothing.
 use Prim.Native.Nat.{ℕ, zero, suc, _+_, _-_, _*_, _/_, _%_, _<_, _≤_}
 use native.Mathlib.Omega.{arith}
-use native.Mathlib.Nat.{eq-or-lt-of-le}
-use mathlib.Core.Logic.{⊎-elim}
 use mathlib.Core.Path.{_≡_, refl, sym, ap, _∙_}
 use mathlib.Core.Bool.{Bool, true, false, not}
 use mathlib.Core.List.{List}
@@ -13,10 +11,10 @@ use borrow.Author.Tests.{leb-true, le-leb, ltb-true, ltb-false, lt-ltb, eqb-true
 use Rattle.model.specs.Choice.{pick, _and_, _or_, every, tabulate}
 use Rattle.model.specs.Layout.{idAt, idIn, idMinorPlace, idWords, idsOf, mostIds, mostPeers, channelCount, peerWords, idCountWord, firstIdWord, firstPeerWord, stateWords, readyAt, peeredAt, peerHandleAt, peerMinorAt, withPeer, withoutPeer}
 use Rattle.model.specs.Peers.{topBit, isPeered, peeredAs, peersBelow, peerSound, peerApart, peersSound}
-use Rattle.model.specs.Journal.{peerRegisteredEvent, peerEndedEvent, fieldsOf}
-use Rattle.model.specs.Messages.{Effect, effect}
+use Rattle.model.specs.Journal.{fieldsOf}
+use Rattle.model.specs.Messages.{Effect}
 use Rattle.model.specs.Reading.{Peer, noPeer, peer, peerPlace, peersShown, hasHandle, endedFrom, readPeers}
-use Rattle.model.proofs.Choice.{clash, on-pick, pick-true, pick-false, both, join, and-false, every-at, every-make, tabulate-at, tabulate-length, tabulate-same, tabulate-set}
+use Rattle.model.proofs.Choice.{clash, on-pick, pick-true, pick-false, both, join, every-at, every-make, tabulate-at, tabulate-same, tabulate-set}
 use Rattle.model.proofs.Words.{Agree, peer-frame, peer-mark, peer-handle, peer-minor, unpeer-frame, unpeer-mark}
 use Rattle.model.proofs.Peers.{OwnPeers, PeerTurn, peers-same, mark-same, handle-same, minor-same}
 

@@ -12,7 +12,7 @@ use Rattle.model.specs.Choice.{pick, _and_, _or_, every, clearedFrom}
 use Rattle.model.specs.declared.Event.{Event}
 use Rattle.model.specs.Layout.{idIn, idAt, idBytesIn, idByteIn, idsOf, wordBytes, idPlace, idBytesPlace, idMinorPlace, idWords, mostIds, mostIdBytes, highestMinor, channelCount, peerWords, idCountWord, firstIdWord, firstPeerWord, stateWords, readyAt, peeredAt, peerHandleAt, peerMinorAt, withChannel}
 use Rattle.model.specs.Devices.{wordsHolding, paddingBytes, sameName}
-use Rattle.model.specs.Peers.{idBytesKeep, idKeeps, idApart, idsKeep, isPeered, peersBelow, peerSound, peerApart, peersSound}
+use Rattle.model.specs.Peers.{idBytesKeep, idKeeps, idApart, idsKeep, peersBelow, peerSound, peerApart, peersSound}
 use Rattle.model.specs.Journal.{kindNoted, kindReady, kindClosed, kindVersionRefused, kindPeerRegistered, kindPeerEnded, fieldsOf}
 use Rattle.model.specs.Messages.{Effect, effect}
 use Rattle.model.specs.Reading.{Peer, noPeer, peer, peerPlace, peersShown, readPeers}

@@ -30,7 +30,7 @@ use Rattle.model.proofs.DeviceEffects.{devices-good}
 use Rattle.model.proofs.OrderEffects.{answered-order-good}
 use Rattle.model.proofs.PeerEffects.{peer-data-good, registering-good, unregistered-good}
 use Rattle.model.specs.Journal.{deliveredEvent, fieldsOf, dataRefusedEvent}
-use Rattle.model.specs.Reading.{read, viewOf}
+use Rattle.model.specs.Reading.{handleIn, readIn, settledBlock, viewOf}
 use Rattle.model.specs.Replay.{showsReady, showsStage, isRegistered}
 use Rattle.model.proofs.Shown.{shows-none, shows-open, shows-test, registered-here}
 use Rattle.model.proofs.Needs.{delivered-needs, data-refused-needs}
@@ -79,12 +79,12 @@ route-of v =
 
 module _ (s : List ℕ) (g : Given s) where
   delivered-good : (c v : ℕ) → c < channelCount → v < serviceCount → showsReady (viewOf s) c ≡ true → isRegistered (showsStage (viewOf s) c v) ≡ true → Good s (effect (deliveredEvent c v) s [])
-  unfolding read pick fieldsOf aside _or_
+  unfolding readIn handleIn settledBlock pick fieldsOf aside _or_
   delivered-good c v h l r n =
       unchanged s g (deliveredEvent c v) [] (delivered-fits _ c (next-number s g) h v l) (λ x. refl) short-empty refl refl (delivered-needs _ _ c v r n)
 
   data-refused-good : (c handle : ℕ) → c < channelCount → readyAt s c ≡ 1 → registeredFor s c handle ≡ Nowhere → Good s (effect (dataRefusedEvent c handle) s (nack handle DS-INV-HDL))
-  unfolding read pick fieldsOf aside _or_
+  unfolding readIn handleIn settledBlock pick fieldsOf aside _or_
   data-refused-good c handle h ready e =
       unchanged s g (dataRefusedEvent c handle) _ (data-refused-fits _ c (next-number s g) h handle) (λ v. refl) (nack-short handle _) refl refl
       (data-refused-needs _ _ c handle (shows-open s c h ready) (shows-none s (g .facts .base) c handle h e))

@@ -22,7 +22,7 @@ use Rattle.model.specs.Messages.{Effect, effect}
 use Rattle.model.specs.Work.{settled, WorkStep, working, ending, collects, pagesMoved, lateReply, resultAt}
 use Rattle.model.specs.Calls.{Outcome, accepted, act, receive, work, effectOf, outcome, pagesOf, refusalOf}
 use Rattle.model.specs.Reading.{View, setupView}
-use Rattle.model.specs.Blocks.{setupState, namedBlock}
+use Rattle.model.specs.Blocks.{namedBlock}
 use Rattle.model.specs.Demand3.{Run, Done, newRun, runs, noted, reached, replyOf}
 use Rattle.model.specs.Contracts.{AllMeet, OfEveryList}
 use Rattle.model.specs.Repeats.{Repeat, Repeats, Requests, Hears, Begun, requestIn, SettledNowork, addressAt, sizeAt, settledUnconfigured, resultIn, answerIn}
@@ -44,7 +44,7 @@ use Rattle.model.proofs.Calls.{taken, on-accepted}
 use Rattle.model.proofs.Kept.{noted-is}
 use Rattle.model.proofs.WorkKept.{work-allowed}
 use Rattle.model.proofs.Delivers.{channel-within, reachedBy, reply-is, reached-of, memory-answers}
-use Rattle.model.proofs.Setup.{starts}
+use Rattle.model.proofs.Setup.{markedState, starts}
 use Rattle.model.proofs.Lists.{Kept, AfterCall, grown, shifted, on-list, meets-outcome}
 use Rattle.model.proofs.Demand3.{at-first, meets-before, meets-here}
 use Rattle.model.proofs.Settled.{settled-none, settled-turn, settled-counted, accepted-removal, NoworkKept, nowork-same, nowork-turn, counted-removal, repeat-unconfigured}
@@ -294,7 +294,7 @@ after-call b u k q = record {
 }
 
 pub repeats : OfEveryList (λ l s j ds. Repeats s j ds)
-repeats l r j ds e z m = record {
+repeats l r j₀ j ds e z m = record {
   unconfigured = all ds m .1 .0;
   settles =
       λ before later budget out o k q y settles again.
@@ -330,7 +330,7 @@ repeats l r j ds e z m = record {
   where
     all : (ds : List Done) → AllMeet (newRun (r .state) j) ds → Kept (setupView l) (runs (newRun (r .state) j) ds) × Invariant (runs (newRun (r .state) j) ds)
     all ds m =
-        let f = at-first l r j e z in
+        let f = at-first l r j₀ j e z in
         let o = starts l (f .accepted) .outstanding in
         on-list (setupView l) Invariant (after-call (setupView l)) (newRun (r .state) j) ds m (f .kept)
-        (rw (f .state) (settled-none (setupState l) o, λ one. absurd (omega (arith, one, o))))
+        (rw (f .state) (settled-none (markedState l) o, λ one. absurd (omega (arith, one, o))))

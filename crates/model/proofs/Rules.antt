@@ -168,6 +168,7 @@ abbrev pub Removes : List ℕ → ℕ → Type 0
 Removes s last = isSet (outstandingOf s) ≡ true → Outstanding s last
 
 pub record Counts (s : List ℕ) : Type 0 where
+  pub some : 1 ≤ lastOf s
   pub lasts : lastOf s ≤ highestNumber
   pub helds : heldOf s ≤ mostHeld
   pub numbered : heldOf s ≤ lastOf s
@@ -292,6 +293,7 @@ module _ (s : List ℕ) where
       let t9 = both _ _ (t8 .1) in
       let t10 = both _ _ (t9 .1) in
       let t11 = both _ _ (t10 .1) in
+      let t12 = both _ _ (t11 .1) in
       record {
         base = record {
           few = leb-true _ mostBlocks (b1 .0);
@@ -300,16 +302,17 @@ module _ (s : List ℕ) where
           services = λ k h. every-at (λ k. serviceSoundAt s k) placeCount k (t3 .0) h;
           apart = apart-facts (t4 .0);
         };
-        removal = removes-facts (t8 .0);
+        removal = removes-facts (t9 .0);
         counts = record {
-          lasts = leb-true _ _ (t5 .0);
-          helds = leb-true _ _ (t6 .0);
-          numbered = leb-true _ _ (t7 .0);
+          some = leb-true _ _ (t5 .0);
+          lasts = leb-true _ _ (t6 .0);
+          helds = leb-true _ _ (t7 .0);
+          numbered = leb-true _ _ (t8 .0);
         };
-        devices = t9 .0;
-        orders = t10 .0;
-        ids = t11 .0;
-        peers = λ c h. every-at (λ c. peersSound s (readyAt s c) c) channelCount c (t11 .1) h;
+        devices = t10 .0;
+        orders = t11 .0;
+        ids = t12 .0;
+        peers = λ c h. every-at (λ c. peersSound s (readyAt s c) c) channelCount c (t12 .1) h;
       }
 
   pub sound-test : Sound s → sound s ≡ true
@@ -321,9 +324,10 @@ module _ (s : List ℕ) where
       (join _ _ (every-make (λ c. leb (readyAt s c) 1) channelCount (λ c h. le-leb _ 1 (b .ready c h)))
       (join _ _ (every-make (λ k. serviceSoundAt s k) placeCount (b .services))
       (join _ _ (apart-test (b .apart))
+      (join _ _ (le-leb _ _ (f .counts .some))
       (join _ _ (le-leb _ _ (f .counts .lasts))
       (join _ _ (le-leb _ _ (f .counts .helds))
-      (join _ _ (le-leb _ _ (f .counts .numbered)) (join _ _ (removes-test (f .removal)) (join _ _ (f .devices) (join _ _ (f .orders) (join _ _ (f .ids) (every-make (λ c. peersSound s (readyAt s c) c) channelCount (f .peers))))))))))))
+      (join _ _ (le-leb _ _ (f .counts .numbered)) (join _ _ (removes-test (f .removal)) (join _ _ (f .devices) (join _ _ (f .orders) (join _ _ (f .ids) (every-make (λ c. peersSound s (readyAt s c) c) channelCount (f .peers)))))))))))))
 
 -- a later last number
 pub base-later : {s : List ℕ} {last : ℕ} (last′ : ℕ) → last ≤ last′ → Base s last → Base s last′

@@ -305,5 +305,6 @@ search-holds = record {
   atMost = looked-few;
   halves = halvings-half;
   forSixteen = refl;
+  forSixtyFour = refl;
   returned = same-told;
 }

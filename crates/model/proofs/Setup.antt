@@ -3,26 +3,29 @@
 use Prim.Native.Nat.{ℕ, zero, suc, _+_, _*_, _/_, _%_, _≤_, _<_}
 use native.Mathlib.Omega.{arith}
 use mathlib.Core.Path.{_≡_, refl, ap, _∙_}
-use mathlib.Core.Bool.{true}
+use mathlib.Core.Bool.{Bool, true, false, not}
+use lib.Dec.{eqb}
+use Rattle.model.specs.Calls.{setupRefusal}
+use Rattle.model.specs.Refusals.{refusalIn}
 use mathlib.Core.List.{List}
 use lib.ListN.{length, getD, set, replicate, length-set, getD-replicate}
 use lib.Seq.{getD-set-same, getD-set-other, length-sets}
 use borrow.Author.Tests.{leb-true, eqb-true}
 use Rattle.model.specs.Choice.{pick, every, tabulate, _and_, _or_}
-use Rattle.model.specs.Layout.{outstandingOf, blocksOf, blockIn, blockAt, lastOf, heldOf, blockCountWord, blockWords, configuredPlace, firstBlockWord, firstPlace, firstStageWord, heldWord, lastWord, mostBlocks, outstandingWord, pagesPlace, permanentPlace, serviceWords, stateWords, noBlock, deviceWords, mostDevices, deviceConfiguredPlace, deviceCountWord, firstDeviceWord, firstPermissionWord, noDevice, deviceIn, deviceAt, devicesOf, channelCount, readyAt, idWords, mostIds, idCountWord, firstIdWord, firstPeerWord, peerWords, idsOf, peeredAt}
+use Rattle.model.specs.Layout.{withCounts, journalWords, outstandingOf, blocksOf, blockIn, blockAt, lastOf, heldOf, blockCountWord, blockWords, configuredPlace, firstBlockWord, firstPlace, firstStageWord, lastWord, mostBlocks, outstandingWord, pagesPlace, permanentPlace, serviceWords, stateWords, noBlock, deviceWords, mostDevices, deviceConfiguredPlace, deviceCountWord, firstDeviceWord, firstPermissionWord, noDevice, deviceIn, deviceAt, devicesOf, channelCount, readyAt, idWords, mostIds, idCountWord, firstIdWord, firstPeerWord, peerWords, idsOf, peeredAt}
 use Rattle.model.specs.Peers.{acceptedIds, idsKeep}
 use Rattle.model.specs.Devices.{acceptedDevices, devicesKeep}
 use Rattle.model.specs.Blocks.{blockKeeps, endBefore, blocksKeep, withList, setupState, Lists, acceptedBlocks, acceptedLists, noLists, names, namedIn, namedBlock}
 use Rattle.model.specs.State.{ordersSound, sound}
 use Rattle.model.specs.Reading.{stageOf, channelsOf, servicesOf, blocksShown, removalShown, viewOf, setupView, devicesShown, setupDevices, orderShown, ordersShown, setupOrders, noPeer, peersShown, setupPeers}
 use Rattle.model.proofs.Choice.{both, every-at, tabulate-same, first-same}
-use Rattle.model.proofs.Words.{sets-below, sets-above, sets-at, removal-same}
-use Rattle.model.proofs.View.{channels-same, services-same}
+use Rattle.model.proofs.Words.{sets-below, sets-above, sets-at, removal-same, counts-frame, counts-length, last-counts, held-counts}
+use Rattle.model.proofs.View.{Shape, channels-same, services-same, block-same, counts-view}
 use Rattle.model.proofs.Above.{orders-kept, orders-shown-same}
-use Rattle.model.proofs.Devices.{SameWords, device-facts, name-few, flag-few, devices-keep, device-same}
-use Rattle.model.proofs.Peers.{SameIdWords, id-facts, id-few, ids-keep, unmarked-sound}
-use Rattle.model.proofs.Rules.{sound-test, service-idle}
-use Rattle.model.proofs.Sounds.{removes-none}
+use Rattle.model.proofs.Devices.{shown-same as devices-shown-same, SameWords, device-facts, name-few, flag-few, devices-keep, device-same}
+use Rattle.model.proofs.Peers.{SameIdWords, id-facts, id-few, ids-keep, unmarked-sound, peers-shown-same}
+use Rattle.model.proofs.Rules.{service-idle}
+use Rattle.model.proofs.Sounds.{removes-none, sound-counted}
 use Rattle.model.specs.Messages.{services}
 
 -- an accepted list as facts
@@ -275,13 +278,6 @@ module _ (l : Lists) (w : WholeLists l) where
   floor zero h = refl
   floor (suc i) h = rw (block i (omega arith))
 
-  setup-named : (addr size : ℕ) → namedBlock (setupState l) addr size ≡ namedIn (l .blocks) 0 (length (l .blocks) / blockWords) addr size
-  unfolding namedBlock
-  setup-named addr size =
-      rw count
-      (first-same (length (l .blocks) / blockWords) (λ i. names addr size (blockIn (l .blocks) 0 i)) (λ i. names addr size (blockAt (setupState l) i))
-      (λ i h. ap (names addr size) (block i h)))
-
   setup-view : viewOf (setupState l) ≡ setupView l
   unfolding viewOf setupView
   setup-view =
@@ -297,62 +293,91 @@ module _ (l : Lists) (w : WholeLists l) where
       blocks : blocksShown (setupState l) ≡ tabulate (λ i. blockIn (l .blocks) 0 i) (length (l .blocks) / blockWords)
       blocks = unfold blocksShown in rw count (tabulate-same (λ i. blockIn (l .blocks) 0 i) (λ i. blockAt (setupState l) i) (length (l .blocks) / blockWords) noBlock block)
 
-  setup-sound : sound (setupState l) ≡ true
-  setup-sound =
-      sound-test (setupState l)
+  -- with the mark counted
+  marked-sound : sound (withCounts (setupState l) 1 1) ≡ true
+  marked-sound =
+      sound-counted (setupState l) 1 1 setup-length
       (record {
-        base = record {
-          few = rw count (f .few);
-          blocks = λ i h. let g : i < length (l .blocks) / blockWords = omega (arith, count) in rw (block i g, floor i (omega arith)) (f .keeps i g);
-          ready = λ c h. rw (none-low c (omega arith)) (omega arith);
-          services = λ k h. service-idle _ _ _ _ _ (none-low (firstStageWord + k * serviceWords) (omega arith));
-          apart = λ j k i h p q r. q (none-low (firstStageWord + k * serviceWords) (omega arith));
-        };
-        removal = removes-none (setupState l) _ (high outstandingWord (omega arith) (omega arith));
-        counts = record {
-          lasts = rw (high lastWord (omega arith) (omega arith)) (omega arith);
-          helds = rw (high heldWord (omega arith) (omega arith)) (omega arith);
-          numbered = rw (high heldWord (omega arith) (omega arith)) (omega arith);
-        };
-        devices = setup-devices;
-        orders = setup-orders;
-        ids = setup-ids;
-        peers = λ c h. unmarked-sound (setupState l) (readyAt (setupState l) c) c (setup-unpeered c h);
+        few = rw count (f .few);
+        blocks = λ i h. let g : i < length (l .blocks) / blockWords = omega (arith, count) in rw (block i g, floor i (omega arith)) (f .keeps i g);
+        ready = λ c h. rw (none-low c (omega arith)) (omega arith);
+        services = λ k h. service-idle _ _ _ _ _ (none-low (firstStageWord + k * serviceWords) (omega arith));
+        apart = λ j k i h p q r. q (none-low (firstStageWord + k * serviceWords) (omega arith));
       })
+      (removes-none (setupState l) _ (high outstandingWord (omega arith) (omega arith)))
+      setup-devices
+      setup-orders
+      setup-ids
+      (λ c h. unmarked-sound (setupState l) (readyAt (setupState l) c) c (setup-unpeered c h))
+      (omega arith) (omega arith) (omega arith) (omega arith)
 
--- what holds of an accepted list's state
+  marked-shape : Shape (setupState l)
+  marked-shape = record { size = setup-length; few = rw count (f .few) }
+
+  -- the counts are no part of the blocks
+  marked-block : (i : ℕ) → i < length (l .blocks) / blockWords → blockAt (withCounts (setupState l) 1 1) i ≡ blockIn (l .blocks) 0 i
+  marked-block i h =
+      block-same (setupState l) (withCounts (setupState l) 1 1) i (omega (arith, f .few)) (λ j lo hi. counts-frame (setupState l) 1 1 j (λ p q. omega arith))
+      ∙ block i h
+
+  marked-count : blocksOf (withCounts (setupState l) 1 1) ≡ length (l .blocks) / blockWords
+  marked-count = counts-frame (setupState l) 1 1 blockCountWord (λ p q. omega arith) ∙ count
+
+  marked-named : (addr size : ℕ) → namedBlock (withCounts (setupState l) 1 1) addr size ≡ namedIn (l .blocks) 0 (length (l .blocks) / blockWords) addr size
+  unfolding namedBlock
+  marked-named addr size =
+      rw marked-count
+      (first-same (length (l .blocks) / blockWords) (λ i. names addr size (blockIn (l .blocks) 0 i)) (λ i. names addr size (blockAt (withCounts (setupState l) 1 1) i))
+      (λ i h. ap (names addr size) (marked-block i h)))
+
+-- what holds of the state that setup leaves of accepted lists
+abbrev pub markedState : Lists → List ℕ
+markedState l = withCounts (setupState l) 1 1
+
 pub record Starts (l : Lists) : Type 0 where
-  pub size : length (setupState l) ≡ stateWords
-  pub sounds : sound (setupState l) ≡ true
-  pub last : lastOf (setupState l) ≡ 0
-  pub held : heldOf (setupState l) ≡ 0
-  pub view : viewOf (setupState l) ≡ setupView l
-  pub devices : devicesShown (setupState l) ≡ setupDevices l
-  pub orders : ordersShown (setupState l) ≡ setupOrders
-  pub peers : peersShown (setupState l) ≡ setupPeers
-  pub outstanding : outstandingOf (setupState l) ≡ 0
-  pub counted : blocksOf (setupState l) ≡ length (l .blocks) / blockWords
-  pub given : (i : ℕ) → i < length (l .blocks) / blockWords → blockAt (setupState l) i ≡ blockIn (l .blocks) 0 i
-  pub named : (addr size : ℕ) → namedBlock (setupState l) addr size ≡ namedIn (l .blocks) 0 (length (l .blocks) / blockWords) addr size
+  pub size : length (markedState l) ≡ stateWords
+  pub sounds : sound (markedState l) ≡ true
+  pub last : lastOf (markedState l) ≡ 1
+  pub held : heldOf (markedState l) ≡ 1
+  pub view : viewOf (markedState l) ≡ setupView l
+  pub devices : devicesShown (markedState l) ≡ setupDevices l
+  pub orders : ordersShown (markedState l) ≡ setupOrders
+  pub peers : peersShown (markedState l) ≡ setupPeers
+  pub outstanding : outstandingOf (markedState l) ≡ 0
+  pub counted : blocksOf (markedState l) ≡ length (l .blocks) / blockWords
+  pub given : (i : ℕ) → i < length (l .blocks) / blockWords → blockAt (markedState l) i ≡ blockIn (l .blocks) 0 i
+  pub named : (addr size : ℕ) → namedBlock (markedState l) addr size ≡ namedIn (l .blocks) 0 (length (l .blocks) / blockWords) addr size
 
 pub starts : (l : Lists) → acceptedLists l ≡ true → Starts l
 starts l e =
     let f = whole-lists l e in
     record {
-      size = setup-length l f;
-      sounds = setup-sound l f;
-      last = high l f lastWord (omega arith) (omega arith);
-      held = high l f heldWord (omega arith) (omega arith);
-      view = setup-view l f;
-      devices = setup-shown l f;
-      orders = setup-ordered l f;
-      peers = setup-peers l f;
-      outstanding = high l f outstandingWord (omega arith) (omega arith);
-      counted = count l f;
-      given = block l f;
-      named = setup-named l f;
+      size = counts-length (setupState l) 1 1 ∙ setup-length l f;
+      sounds = marked-sound l f;
+      last = last-counts (setupState l) 1 1 (setup-length l f);
+      held = held-counts (setupState l) 1 1 (setup-length l f);
+      view = counts-view (setupState l) (marked-shape l f) 1 1 ∙ setup-view l f;
+      devices = devices-shown-same (setupState l) (markedState l) (λ j lo hi. counts-frame (setupState l) 1 1 j (λ p q. omega arith)) (setup-devices l f) ∙ setup-shown l f;
+      orders = orders-shown-same (setupState l) (markedState l) (λ j lo hi. counts-frame (setupState l) 1 1 j (λ p q. omega arith)) ∙ setup-ordered l f;
+      peers = peers-shown-same (setupState l) (markedState l) (λ j lo hi. counts-frame (setupState l) 1 1 j (λ p q. omega arith)) ∙ setup-peers l f;
+      outstanding = counts-frame (setupState l) 1 1 outstandingWord (λ p q. omega arith) ∙ high l f outstandingWord (omega arith) (omega arith);
+      counted = marked-count l f;
+      given = marked-block l f;
+      named = marked-named l f;
     }
 
-pub empty-accepted : acceptedLists noLists ≡ true
+empty-accepted : acceptedLists noLists ≡ true
 unfolding acceptedLists acceptedBlocks blocksKeep acceptedDevices devicesKeep acceptedIds idsKeep every _and_
 empty-accepted = refl
+
+pub empty-last : lastOf (setupState noLists) ≡ 0
+empty-last = high noLists (whole-lists noLists empty-accepted) lastWord (omega arith) (omega arith)
+
+-- where setup does not refuse, the journal has its length and the lists are accepted
+pub setup-accepts : (l : Lists) (words : ℕ) → setupRefusal l words ≡ 0 → (words ≡ journalWords) × (acceptedLists l ≡ true)
+setup-accepts l words e = go (eqb words journalWords) refl (acceptedLists l) refl (unfold setupRefusal refusalIn in e)
+  where
+    go : (b : Bool) → eqb words journalWords ≡ b → (a : Bool) → acceptedLists l ≡ a → _≡_ {A = ℕ} (pick (not b) 1 (pick (not a) 7 0)) 0 → (words ≡ journalWords) × (a ≡ true)
+    go true p true q z = (eqb-true words journalWords p, refl)
+    go true p false q z = let y : _≡_ {A = ℕ} 7 0 = unfold pick in z in absurd (omega arith)
+    go false p a q z = let y : _≡_ {A = ℕ} 1 0 = unfold pick in z in absurd (omega arith)

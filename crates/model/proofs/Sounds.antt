@@ -339,8 +339,8 @@ pub removes-none : (s : List ℕ) (last : ℕ) → outstandingOf s ≡ 0 → Rem
 removes-none s last e o = absurd (clash _ (not-true _ o) (eq-eqb _ 0 e))
 
 -- An entry counted.
-pub sound-counted : (s : List ℕ) (last held : ℕ) → length s ≡ stateWords → Base s last → Removes s last → devicesKeep s firstDeviceWord (devicesOf s) ≡ true → ordersSound s ≡ true → idsKeep s firstIdWord (idsOf s) ≡ true → ((c : ℕ) → c < channelCount → peersSound s (readyAt s c) c ≡ true) → last ≤ highestNumber → held ≤ mostHeld → held ≤ last → sound (withCounts s last held) ≡ true
-sound-counted s last held n b r d o i v p q l =
+pub sound-counted : (s : List ℕ) (last held : ℕ) → length s ≡ stateWords → Base s last → Removes s last → devicesKeep s firstDeviceWord (devicesOf s) ≡ true → ordersSound s ≡ true → idsKeep s firstIdWord (idsOf s) ≡ true → ((c : ℕ) → c < channelCount → peersSound s (readyAt s c) c ≡ true) → 1 ≤ last → last ≤ highestNumber → held ≤ mostHeld → held ≤ last → sound (withCounts s last held) ≡ true
+sound-counted s last held n b r d o i v f p q l =
     let t : List ℕ = withCounts s last held in
     let e = counts-frame s last held in
     let x = last-counts s last held n in
@@ -349,7 +349,7 @@ sound-counted s last held n b r d o i v p q l =
     (record {
       base = rw x (base-make′ e);
       removal = rw x (removes-same s (withCounts s last held) last (b .few) (λ j lo hi. e j (λ p q. omega arith)) (λ j lo hi. e j (λ p q. omega arith)) r);
-      counts = record { lasts = rw x p; helds = rw y q; numbered = rw (x, y) l };
+      counts = record { some = rw x f; lasts = rw x p; helds = rw y q; numbered = rw (x, y) l };
       devices = devices-same s (withCounts s last held) (λ j lo hi. e j (λ p q. omega arith)) d;
       orders = orders-kept s (withCounts s last held) (λ j lo hi. e j (λ p q. omega arith)) o;
       ids = ids-same s (withCounts s last held) (λ j lo hi. e j (λ p q. omega arith)) i;
@@ -367,7 +367,7 @@ sound-same s t a b f =
     record {
       base = rw last (base-same s t (lastOf s) (λ j lo hi. a j lo (omega arith)) (f .base));
       removal = rw last (removes-same s t (lastOf s) (f .base .few) (λ j lo hi. a j (omega arith) (omega arith)) (λ j lo hi. a j (omega arith) hi) (f .removal));
-      counts = record { lasts = rw last (f .counts .lasts); helds = rw held (f .counts .helds); numbered = rw (last, held) (f .counts .numbered) };
+      counts = record { some = rw last (f .counts .some); lasts = rw last (f .counts .lasts); helds = rw held (f .counts .helds); numbered = rw (last, held) (f .counts .numbered) };
       devices = devices-same s t (λ j lo hi. b j lo (omega arith)) (f .devices);
       orders = orders-kept s t (λ j lo hi. b j (omega arith) (omega arith)) (f .orders);
       ids = ids-same s t (λ j lo hi. b j (omega arith) (omega arith)) (f .ids);

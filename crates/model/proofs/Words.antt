@@ -214,6 +214,35 @@ module _ (s : List ℕ) (m : Removal) (n : length s ≡ stateWords) (a : Arrays 
         flag-word (m .cancelled),
       )
 
+  -- words that have what is stored, and elsewhere what was there
+  pub removal-words : (t : List ℕ) → length t ≡ stateWords → ((j : ℕ) → j < outstandingWord → getD t j 0 ≡ getD s j 0) → ((i : ℕ) → i < headWords → getD t (outstandingWord + i) 0 ≡ getD (removalHead m) i 0) → ((i : ℕ) → i < mostRecords → getD t (firstAddressWord + i) 0 ≡ getD (m .address) i 0) → ((i : ℕ) → i < mostRecords → getD t (firstSizeWord + i) 0 ≡ getD (m .size) i 0) → ((i : ℕ) → i < mostRecords → getD t (firstResultWord + i) 0 ≡ getD (m .result) i 0) → ((j : ℕ) → firstNumberedWord ≤ j → getD t j 0 ≡ getD s j 0) → withRemoval s m ≡ t
+  removal-words t z low head addresses sizes results high =
+      ext-getD 0 (withRemoval s m) t (removal-length s m ∙ n ∙ sym z)
+      (λ j h. go j (ltb j outstandingWord) refl (ltb j firstAddressWord) refl (ltb j firstSizeWord) refl (ltb j firstResultWord) refl (ltb j firstNumberedWord) refl)
+    where
+      at : (k i j : ℕ) → k + i ≡ j → getD (withRemoval s m) (k + i) 0 ≡ getD t (k + i) 0 → getD (withRemoval s m) j 0 ≡ getD t j 0
+      at k i j e p = rw e at p
+
+      go : (j : ℕ) → (p : Bool) → ltb j outstandingWord ≡ p → (q : Bool) → ltb j firstAddressWord ≡ q → (r : Bool) → ltb j firstSizeWord ≡ r → (v : Bool) → ltb j firstResultWord ≡ v → (u : Bool) → ltb j firstNumberedWord ≡ u → getD (withRemoval s m) j 0 ≡ getD t j 0
+      go j true p q q′ r r′ v v′ u u′ = removal-frame s m j (ltb-true j outstandingWord p) ∙ sym (low j (ltb-true j outstandingWord p))
+      go j false p true q′ r r′ v v′ u u′ =
+          let lo = ltb-false j outstandingWord p in
+          let hi = ltb-true j firstAddressWord q′ in
+          at outstandingWord (j - outstandingWord) j (omega arith) (head-back (j - outstandingWord) (omega arith) ∙ sym (head (j - outstandingWord) (omega arith)))
+      go j false p false q′ true r′ v v′ u u′ =
+          let lo = ltb-false j firstAddressWord q′ in
+          let hi = ltb-true j firstSizeWord r′ in
+          at firstAddressWord (j - firstAddressWord) j (omega arith) (address-back (j - firstAddressWord) (omega arith) ∙ sym (addresses (j - firstAddressWord) (omega arith)))
+      go j false p false q′ false r′ true v′ u u′ =
+          let lo = ltb-false j firstSizeWord r′ in
+          let hi = ltb-true j firstResultWord v′ in
+          at firstSizeWord (j - firstSizeWord) j (omega arith) (size-back (j - firstSizeWord) (omega arith) ∙ sym (sizes (j - firstSizeWord) (omega arith)))
+      go j false p false q′ false r′ false v′ true u′ =
+          let lo = ltb-false j firstResultWord v′ in
+          let hi = ltb-true j firstNumberedWord u′ in
+          at firstResultWord (j - firstResultWord) j (omega arith) (result-back (j - firstResultWord) (omega arith) ∙ sym (results (j - firstResultWord) (omega arith)))
+      go j false p false q′ false r′ false v′ false u′ = removal-above j (ltb-false j firstNumberedWord u′) ∙ sym (high j (ltb-false j firstNumberedWord u′))
+
 -- what is loaded has arrays of sixteen
 pub loaded-arrays : (s : List ℕ) → Arrays (removalOf s)
 unfolding removalOf
@@ -230,7 +259,7 @@ module _ (s : List ℕ) (n : length s ≡ stateWords) (one : outstandingOf s ≡
   word-flag (suc zero) h = refl
   word-flag (suc (suc x)) h = absurd (omega arith)
 
-  head-same : (i : ℕ) → i < headWords → getD (removalHead (removalOf s)) i 0 ≡ getD s (outstandingWord + i) 0
+  pub head-same : (i : ℕ) → i < headWords → getD (removalHead (removalOf s)) i 0 ≡ getD s (outstandingWord + i) 0
   unfolding removalOf
   head-same zero h = sym one
   head-same (suc zero) h = word-flag (getD s cancelledWord 0) flag
@@ -243,43 +272,16 @@ module _ (s : List ℕ) (n : length s ≡ stateWords) (one : outstandingOf s ≡
   head-same (suc (suc (suc (suc (suc (suc (suc (suc i)))))))) h = absurd (omega arith)
 
   -- word i of sixteen from at on
-  sixteen-same : (at i : ℕ) → i < mostRecords → getD (tabulate (λ (i : ℕ). getD s (at + i) 0) mostRecords) i 0 ≡ getD s (at + i) 0
+  pub sixteen-same : (at i : ℕ) → i < mostRecords → getD (tabulate (λ (i : ℕ). getD s (at + i) 0) mostRecords) i 0 ≡ getD s (at + i) 0
   sixteen-same at i h = tabulate-at (λ (i : ℕ). getD s (at + i) 0) mostRecords i 0 h
 
   pub removal-again : withRemoval s (removalOf s) ≡ s
   removal-again =
-      ext-getD 0 (withRemoval s (removalOf s)) s (removal-length s (removalOf s))
-      (λ j h. go j (omega (arith, removal-length s (removalOf s))) (ltb j outstandingWord) refl (ltb j firstAddressWord) refl (ltb j firstSizeWord) refl (ltb j firstResultWord) refl (ltb j firstNumberedWord) refl)
-    where
-      a : Arrays (removalOf s)
-      a = loaded-arrays s
-
-      at : (k i j : ℕ) → k + i ≡ j → getD (withRemoval s (removalOf s)) (k + i) 0 ≡ getD s (k + i) 0 → getD (withRemoval s (removalOf s)) j 0 ≡ getD s j 0
-      at k i j e p = rw e at p
-
-      go : (j : ℕ) → j < stateWords → (p : Bool) → ltb j outstandingWord ≡ p → (q : Bool) → ltb j firstAddressWord ≡ q → (r : Bool) → ltb j firstSizeWord ≡ r → (t : Bool) → ltb j firstResultWord ≡ t → (u : Bool) → ltb j firstNumberedWord ≡ u → getD (withRemoval s (removalOf s)) j 0 ≡ getD s j 0
-      go j h true p q q′ r r′ t t′ u u′ = removal-frame s (removalOf s) j (ltb-true j outstandingWord p)
-      go j h false p true q′ r r′ t t′ u u′ =
-          let lo = ltb-false j outstandingWord p in
-          let hi = ltb-true j firstAddressWord q′ in
-          at outstandingWord (j - outstandingWord) j (omega arith)
-          (head-back s (removalOf s) n a (j - outstandingWord) (omega arith) ∙ head-same (j - outstandingWord) (omega arith))
-      go j h false p false q′ true r′ t t′ u u′ =
-          let lo = ltb-false j firstAddressWord q′ in
-          let hi = ltb-true j firstSizeWord r′ in
-          at firstAddressWord (j - firstAddressWord) j (omega arith)
-          (address-back s (removalOf s) n a (j - firstAddressWord) (omega arith) ∙ unfold removalOf in (sixteen-same firstAddressWord (j - firstAddressWord) (omega arith)))
-      go j h false p false q′ false r′ true t′ u u′ =
-          let lo = ltb-false j firstSizeWord r′ in
-          let hi = ltb-true j firstResultWord t′ in
-          at firstSizeWord (j - firstSizeWord) j (omega arith)
-          (size-back s (removalOf s) n a (j - firstSizeWord) (omega arith) ∙ unfold removalOf in (sixteen-same firstSizeWord (j - firstSizeWord) (omega arith)))
-      go j h false p false q′ false r′ false t′ false u′ = removal-above s (removalOf s) n a j (ltb-false j firstNumberedWord u′)
-      go j h false p false q′ false r′ false t′ true u′ =
-          let lo = ltb-false j firstResultWord t′ in
-          let hi = ltb-true j firstNumberedWord u′ in
-          at firstResultWord (j - firstResultWord) j (omega arith)
-          (result-back s (removalOf s) n a (j - firstResultWord) (omega arith) ∙ unfold removalOf in (sixteen-same firstResultWord (j - firstResultWord) (omega arith)))
+      removal-words s (removalOf s) n (loaded-arrays s) s n (λ j h. refl) (λ i h. sym (head-same i h))
+      (λ i h. sym (unfold removalOf in (sixteen-same firstAddressWord i h)))
+      (λ i h. sym (unfold removalOf in (sixteen-same firstSizeWord i h)))
+      (λ i h. sym (unfold removalOf in (sixteen-same firstResultWord i h)))
+      (λ j h. refl)
 
 -- equal words are the same removal
 pub removal-same : (s t : List ℕ) → Agree s t outstandingWord firstNumberedWord → removalOf t ≡ removalOf s

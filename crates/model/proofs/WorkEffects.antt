@@ -18,7 +18,7 @@ use Rattle.model.specs.State.{removalRoom, collectedSound, resultsSound,
 use Rattle.model.specs.Journal.{fieldsOf, collectedEvent, settledEvent, removalEndEvent}
 use Rattle.model.specs.Messages.{Effect, effect}
 use Rattle.model.specs.Work.{addrNow, sizeNow, blockNow, endCode, lateReply, ending, settled, collecting, pagesMoved, collects, worksOn, stepOf, working, WorkStep, failingCode, moving, worksAt}
-use Rattle.model.specs.Reading.{read, seeBlocks, seeRemoval, flagged, unconfiguredIn, steppedRemoval, addedPages, blocksShown, viewOf}
+use Rattle.model.specs.Reading.{handleIn, readIn, settledBlock, seeBlocks, seeRemoval, flagged, unconfiguredIn, steppedRemoval, addedPages, blocksShown, viewOf}
 use Rattle.model.proofs.Choice.{on-pick, join, or-false, every-at, every-make}
 use Rattle.model.proofs.Words.{Arrays, loaded-arrays, configured-frame, removal-above, without-above, without-outstanding, removal-frame, without-frame}
 use Rattle.model.proofs.Above.{leavesAbove}
@@ -29,6 +29,7 @@ use Rattle.model.proofs.Turns.{Turn, steps, same-blocks, same-removal}
 use Rattle.model.proofs.Sounds.{named-less, base-configured, base-removal, base-without, removes-made, removes-none}
 use Rattle.model.proofs.Mask.{unconfigured-set}
 use Rattle.model.proofs.Replies.{short-empty, results-short, result-length}
+use Rattle.model.proofs.SettledWord.{block-back}
 use Rattle.model.proofs.Events.{codeEnd, collected-fits, settled-fits, end-fits}
 use Rattle.model.proofs.Rules.{Given}
 use Rattle.model.proofs.Effects.{Good, shape, next-number, base-now, removes-now}
@@ -140,7 +141,7 @@ module _ (s : List ℕ) (g : Given s) (o : isSet (outstandingOf s) ≡ true) whe
 
   -- 14
   collected-good : (n room : ℕ) → n ≤ mostBudget → removalRoom s (removalOf s) ≡ room → removalOf s .collected + n < room → Turn s (effect (collectedEvent (removalOf s .channel) n) (withRemoval s (collecting (removalOf s) n)) []) → Good s (effect (collectedEvent (removalOf s .channel) n) (withRemoval s (collecting (removalOf s) n)) [])
-  unfolding fieldsOf read pick collecting addedPages removalRoom resultsSound
+  unfolding fieldsOf readIn handleIn settledBlock pick collecting addedPages removalRoom resultsSound
   collected-good n room l e h turn =
       let a = loaded-arrays s in
       let f = facts in
@@ -172,34 +173,37 @@ module _ (s : List ℕ) (g : Given s) (o : isSet (outstandingOf s) ≡ true) whe
       (join _ _ (lt-ltb k (length (blocksShown s)) (rw (shown-length s) kb))
       (le-leb (removalOf s .collected + n) (getD (blocksShown s) k noBlock .pages) (rw (shown-at s k kb) l))))
 
+  block-few : {k : ℕ} → k < blocksOf s → k < mostBlocks
+  block-few kb = omega (arith, g .facts .base .few)
+
   -- 15, NOWORK
   nowork-good : (block : ℕ) → block < blocksOf s → removalOf s .collected ≡ 0 → removalOf s .position < removalOf s .count → Turn s (effect (settledEvent (removalOf s .channel) (removalOf s .position) DR-MEM-RES-NOWORK 0 block) (withRemoval s (settled (removalOf s) DR-MEM-RES-NOWORK)) []) → Good s (effect (settledEvent (removalOf s .channel) (removalOf s .position) DR-MEM-RES-NOWORK 0 block) (withRemoval s (settled (removalOf s) DR-MEM-RES-NOWORK)) [])
-  unfolding fieldsOf read pick steppedRemoval
+  unfolding fieldsOf readIn handleIn settledBlock pick steppedRemoval
   nowork-good block kb none h turn =
       removal-changed s g (settledEvent (removalOf s .channel) (removalOf s .position) DR-MEM-RES-NOWORK 0 block) []
       (settled (removalOf s) DR-MEM-RES-NOWORK)
       (settled-arrays DR-MEM-RES-NOWORK)
-      (settled-fits _ _ (next-number s g) (facts .channels) _ _ 0 block (place-few h) (omega arith) (omega arith))
+      (settled-fits _ _ (next-number s g) (facts .channels) _ _ 0 block (place-few h) (omega arith) (omega arith) (block-few kb))
       (unfold settled in rw (removing-now s g o))
       short-empty
       (settled-facts s DR-MEM-RES-NOWORK h nowork-result)
       (λ blocks removal. turn)
       refl
-      (settled-needs _ _ _ _ _ _ block (removing-shown s g o) (settles-here block 0 kb (omega arith)))
+      (settled-needs _ _ _ _ _ _ block (removing-shown s g o) (settles-here block 0 kb (omega arith)) (block-few kb) (place-few h))
 
   -- 15, OK: the block's flag falls as well
   taken-good : (k n : ℕ) → removalOf s .position < removalOf s .count → n ≤ mostBudget → k < blocksOf s → removalOf s .collected + n ≤ blockAt s k .pages → blockAt s k .permanent ≡ 0 → Turn s (effect (settledEvent (removalOf s .channel) (removalOf s .position) DR-MEM-RES-OK n k) (withRemoval (withConfigured s k 0) (settled (removalOf s) DR-MEM-RES-OK)) []) → Good s (effect (settledEvent (removalOf s .channel) (removalOf s .position) DR-MEM-RES-OK n k) (withRemoval (withConfigured s k 0) (settled (removalOf s) DR-MEM-RES-OK)) [])
-  unfolding fieldsOf read pick steppedRemoval seeBlocks seeRemoval settled
+  unfolding fieldsOf readIn handleIn pick steppedRemoval seeBlocks seeRemoval settled
   taken-good k n h l kb most z turn =
       let w = shape s g in
       let few : k < mostBlocks = omega (arith, w .few) in
       let a = configured-moves s w k 0 few in
       let w′ = shape-moves a w in
       record {
-        entry = settled-fits _ _ (next-number s g) (facts .channels) _ _ n k (place-few h) (omega arith) l;
+        entry = settled-fits _ _ (next-number s g) (facts .channels) _ _ n k (place-few h) (omega arith) l few;
         moves =
             turns _ (then a (removal-moves (withConfigured s k 0) w′ (settled (removalOf s) DR-MEM-RES-OK) (settled-arrays DR-MEM-RES-OK)))
-            (rw (removing-now s g o, one-fewer s k kb));
+            (rw (removing-now s g o, block-back k (removalOf s .position) few, one-fewer s k kb));
         fits = short-empty;
         base =
             base-removal (withConfigured s k 0) (lastOf s + 1) (settled (removalOf s) DR-MEM-RES-OK)
@@ -208,7 +212,7 @@ module _ (s : List ℕ) (g : Given s) (o : isSet (outstandingOf s) ≡ true) whe
             removes-made (withConfigured s k 0) (lastOf s + 1) (settled (removalOf s) DR-MEM-RES-OK) (w′ .size) (w′ .few) (settled-arrays DR-MEM-RES-OK)
             (settled-facts (withConfigured s k 0) DR-MEM-RES-OK h ok-result);
         turn = turn;
-        need = settled-needs _ _ _ _ _ n k (removing-shown s g o) (settles-here k n kb most);
+        need = settled-needs _ _ _ _ _ n k (removing-shown s g o) (settles-here k n kb most) few (place-few h);
         above =
             leavesAbove
             (λ j lo hi. removal-above (withConfigured s k 0) (settled (removalOf s) DR-MEM-RES-OK) (w′ .size) (settled-arrays DR-MEM-RES-OK) j (omega arith) ∙ configured-frame s k 0 j (λ p q. omega arith))
@@ -232,7 +236,7 @@ module _ (s : List ℕ) (g : Given s) (o : isSet (outstandingOf s) ≡ true) whe
       failing Nowhere = unfold failingCode in (omega arith)
 
   end-good : (replied : ℕ) (reply : List ℕ) → replied ≤ 1 → length reply ≤ outputBytes → Turn s (effect (removalEndEvent (removalOf s .channel) (endCode s (removalOf s)) replied (removalOf s .request)) (withoutRemoval s) reply) → Good s (effect (removalEndEvent (removalOf s .channel) (endCode s (removalOf s)) replied (removalOf s .request)) (withoutRemoval s) reply)
-  unfolding fieldsOf read pick
+  unfolding fieldsOf readIn handleIn settledBlock pick
   end-good replied reply r f turn = record {
     entry = end-fits _ _ (next-number s g) (facts .channels) _ replied _ code-small r;
     moves = without-moves s (shape s g);

@@ -1,4 +1,4 @@
--- "Blocks: 0 to 16, given at setup": the rules of a block list, the lists given at setup, its state, and the block that a pair names.
+-- "Blocks: 0 to 16, given at setup", by 02, ticket 8, to 64: the rules of a block list, the lists given at setup, its state, and the block that a pair names.
 -- Assumes nothing.
 use Prim.Native.Nat.{ℕ, zero, suc, _+_, _*_, _/_, _%_}
 use mathlib.Core.Bool.{Bool}
@@ -73,7 +73,8 @@ acceptedLists l = acceptedBlocks (l .blocks) and acceptedDevices (l .devices) an
 unfoldable pub withList : List ℕ → ℕ → ℕ → List ℕ → List ℕ
 withList s at words l = sets (set s at (length l / words)) (at + 1) l
 
--- "Setup leaves all channels closed, nothing outstanding, the journal empty"; 02, ticket 6: "denied until set"
+-- "Setup leaves all channels closed, nothing outstanding, the journal empty"; 02, ticket 6: "denied until set". So the words are before the edition mark (02, ticket 8;
+-- Calls.setUp).
 unfoldable pub setupState : Lists → List ℕ
 setupState l =
     withList (withList (withList (replicate stateWords 0) blockCountWord blockWords (l .blocks)) deviceCountWord deviceWords (l .devices)) idCountWord idWords (l .ids)

@@ -2,7 +2,7 @@
 -- Assumes nothing.
 use Prim.Native.Nat.{ℕ, _+_, _-_, _*_, _/_, min}
 use mathlib.Core.Bool.{Bool, true, false, not}
-use mathlib.Core.List.{List, [], _++_}
+use mathlib.Core.List.{List, [], _∷_, _++_}
 use lib.ListN.{length, drop}
 use lib.Dec.{leb, ltb, eqb}
 use Rattle.wire.specs.BigEndian.{written}
@@ -13,14 +13,13 @@ use Rattle.model.specs.declared.Message.{Message}
 use Rattle.model.specs.declared.Message.the-variants.{InitReq, RegReq, RegAck, RegNack, Unreg, UnregAck, UnregNack, Data, Nack, Bad}
 use Rattle.model.specs.declared.Route.{Route}
 use Rattle.model.specs.declared.Route.the-variants.{Memory, Devices, Orders, Host}
-use Rattle.model.specs.declared.Started.{Started}
 use Rattle.model.specs.declared.TakenOrder.{TakenOrder}
-use Rattle.model.specs.Layout.{channelCount, serviceCount, mostBudget, entryWords, dataHeaderBytes, stageIdle, readyAt, placeOf, stageAt, lastOf, heldOf, outstandingOf, isSet, withCounts, shutdownService, panicService, orderNone, orderShutdown, orderOf, delayOf}
+use Rattle.model.specs.Layout.{channelCount, serviceCount, mostBudget, entryWords, journalWords, dataHeaderBytes, stageIdle, readyAt, placeOf, stageAt, lastOf, heldOf, outstandingOf, isSet, withCounts, shutdownService, panicService, orderNone, orderShutdown, orderOf, delayOf}
 use Rattle.model.specs.Blocks.{Lists, noLists, acceptedLists, setupState}
 use Rattle.model.specs.State.{sound}
-use Rattle.model.specs.Refusals.{actionRefusal, drainRefusal}
+use Rattle.model.specs.Refusals.{refuses, refusalIn, actionRefusal, drainRefusal}
 use Rattle.model.specs.Peers.{peerFor}
-use Rattle.model.specs.Journal.{deliveredEvent, peerDataEvent, dataRefusedEvent, entryOf, stored, entriesAt, wordsOf}
+use Rattle.model.specs.Journal.{markEvent, deliveredEvent, peerDataEvent, dataRefusedEvent, entryOf, stored, entriesAt, wordsOf}
 use Rattle.model.specs.Messages.{DS-UNREG-ACK, DS-UNREG-NACK, DS-NACK, DS-INV-HDL, Effect, effect, route, decoded, registering, nack, offeredFor, registeredFor, liveFor, closing, noting, initiated, acknowledged, notAcknowledged, unregistered, offering, withdrawing}
 use Rattle.model.specs.Memory.{answeredMemory}
 use Rattle.model.specs.Work.{working}
@@ -189,12 +188,23 @@ outcome s j (drain run) =
     (drained s j run (min (heldOf s) (length run / entryWords)))
     (refused s j run (drainRefusal s (length j)))
 
--- Setup: 7 where "the list is not whole blocks or breaks a rule above", and where the device list (02, ticket 1) or the id list (ticket 7) is refused; refused, it gives the state of empty lists.
-unfoldable pub started : Lists → Started
-started l =
-    pick (acceptedLists l)
-    (record { refusal = 0; state = setupState l })
-    (record { refusal = 7; state = setupState noLists })
+-- Setup: 7 where "the list is not whole blocks or breaks a rule above", and where the device list (02, ticket 1) or the id list (ticket 7) is refused. Ticket 8: it "is
+-- now lent the journal, adds this entry and has refusal 1".
+unfoldable pub setupRefusal : Lists → ℕ → ℕ
+setupRefusal l words = refusalIn (refuses (not (eqb words journalWords)) 1 ∷ refuses (not (acceptedLists l)) 7 ∷ [])
+
+-- what it returns and leaves
+pub record SetUp : Type 0 where
+  pub refusal : ℕ
+  pub state : List ℕ
+  pub journal : List ℕ
+
+-- "Entry number 1 is an edition mark of kind 31 .. written by setup"; refused, it gives the state of empty lists and leaves the journal as it was
+unfoldable pub setUp : Lists → List ℕ → SetUp
+setUp l j =
+    pick (eqb (setupRefusal l (length j)) 0)
+    (record { refusal = 0; state = withCounts (setupState l) 1 1; journal = stored j 1 (entryOf 1 markEvent) })
+    (record { refusal = setupRefusal l (length j); state = setupState noLists; journal = j })
 
 -- Show: "the part of its own message from byte 16 on, if it is well-formed DATA whose handle that sound state has registered there for
 -- service 1, 2 or 3, else an empty part"; 02, ticket 1: "show is empty" for service 1; ticket 6: "show is empty" for 2 and 3. So it is

@@ -3,7 +3,7 @@
 -- Assumes nothing.
 use Prim.Native.Nat.{ℕ}
 use mathlib.Core.Path.{_≡_}
-use mathlib.Core.Bool.{Bool}
+use mathlib.Core.Bool.{Bool, true}
 use mathlib.Core.List.{List, [], _∷_}
 use Rattle.model.specs.declared.Answer.{Answer}
 use Rattle.model.specs.declared.Worked.{Worked}
@@ -11,10 +11,10 @@ use Rattle.model.specs.declared.Drained.{Drained}
 use Rattle.model.specs.declared.Started.{Started}
 use Rattle.model.specs.declared.TakenOrder.{TakenOrder}
 use Rattle.model.specs.Blocks.{Lists}
-use Rattle.model.specs.Calls.{Action, receive, offer, withdraw, close, work, permit, takeOrder, Call, act, drain, Outcome, outcome, refusalOf, orderTaken, started, shown}
+use Rattle.model.specs.Calls.{Action, receive, offer, withdraw, close, work, permit, takeOrder, Call, act, drain, Outcome, outcome, refusalOf, orderTaken, setUp, shown}
 use Rattle.model.specs.Demand3.{Run, Done, after, runs, newRun, entries, Demand3}
 use Rattle.model.specs.Reading.{viewOf}
-use Rattle.model.specs.Replay.{good, checked}
+use Rattle.model.specs.Replay.{good, checked, editionOf, listKeeps}
 use Rattle.model.specs.Repeats.{Repeats}
 use Rattle.model.specs.Ends.{Ends}
 
@@ -61,8 +61,8 @@ emptied r s j run = record {
 }
 
 -- The contracts: given a state, a journal and the call's own arguments, what may be returned and left.
-abbrev pub SetupPost : Lists → Started → Type 0
-SetupPost l r = r ≡ started l
+abbrev pub SetupPost : Lists → List ℕ → Started → List ℕ → Type 0
+SetupPost l j r j′ = record { refusal = r .refusal; state = r .state; journal = j′ } ≡ setUp l j
 
 abbrev pub ActionPost : List ℕ → List ℕ → Action → List ℕ → Answer → List ℕ → List ℕ → List ℕ → Type 0
 ActionPost s j a out r s′ j′ out′ = answered r s′ j′ out′ ≡ outcome s j (act a out)
@@ -121,20 +121,21 @@ unfoldable pub AllMeet : Run → List Done → Type 0
 AllMeet u [] = Unit {0}
 AllMeet u (d ∷ ds) = Meets (u .state) (u .journal) (d .call) (d .gave) × AllMeet (after u d) ds
 
--- A claim of every list of calls that meet their contracts, from a setup that meets its contract and does not refuse: of the lists that setup was
--- given, its state, a first journal of any words and the calls made, each with what it returned and left.
+-- A claim of every list of calls that meet their contracts, from a setup that meets its contract and does not refuse, lent a journal of any words: of the lists that
+-- setup was given, the state and the journal that it left and the calls made, each with what it returned and left.
 abbrev pub OfEveryList : (Lists → List ℕ → List ℕ → List Done → Type 0) → Type 0
 OfEveryList P =
-    (l : Lists) (r : Started) (j : List ℕ) (ds : List Done) →
-    SetupPost l r →
+    (l : Lists) (r : Started) (j j′ : List ℕ) (ds : List Done) →
+    SetupPost l j r j′ →
     r .refusal ≡ 0 →
-    AllMeet (newRun (r .state) j) ds →
-    P l (r .state) j ds
+    AllMeet (newRun (r .state) j′) ds →
+    P l (r .state) j′ ds
 
--- 02, ticket 3: "the entries of every list of demand 3 pass with its block list": drained, then held, they are all good, and show what the last state has
-abbrev pub Passes : Lists → List ℕ → List ℕ → List Done → Type 0
-Passes l s j ds =
-    checked l (entries (runs (newRun s j) ds)) ≡ good (runs (newRun s j) ds .number) (viewOf (runs (newRun s j) ds .state))
+-- 02, ticket 3: "the entries of every list of demand 3 pass with its block list": drained, then held, their edition takes the block list, they are all good, and show
+-- what the last state has
+pub record Passes (l : Lists) (s j : List ℕ) (ds : List Done) : Type 0 where
+  pub listed : listKeeps (editionOf (entries (runs (newRun s j) ds))) (l .blocks) ≡ true
+  pub checks : checked l (entries (runs (newRun s j) ds)) ≡ good (runs (newRun s j) ds .number) (viewOf (runs (newRun s j) ds .state))
 
 -- What holds of a list of calls: demand 3, and what the tickets claim of the same lists.
 pub record ListHolds (l : Lists) (s j : List ℕ) (ds : List Done) : Type 0 where

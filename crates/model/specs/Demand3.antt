@@ -18,7 +18,7 @@ use Rattle.model.specs.Layout.{serviceCount, mostHeld, mostIds, dsHeader
 use Rattle.model.specs.Blocks.{Lists}
 use Rattle.model.specs.Journal.{Entry, eventOf, entryAt, entriesAt, entriesIn, servedBy, kindPeerData}
 use Rattle.model.specs.Messages.{DS-INV-HDL, DS-DATA, mostPayload, typeOf, payloadLength, nack}
-use Rattle.model.specs.Calls.{Call, act, drain, receive, Outcome, outcome, started}
+use Rattle.model.specs.Calls.{Call, act, drain, receive, Outcome, outcome, setUp}
 use Rattle.model.specs.Reading.{View, Stage, idle, offered, registered, viewOf, setupView, reading, devicesShown, setupDevices, readingDevices, ordersShown, setupOrders, readingOrders, Peer, noPeer, hasHandle, peerPlace, peersShown, setupPeers, readingPeers}
 
 -- a call, and what it returned and left
@@ -26,7 +26,8 @@ pub record Done : Type 0 where
   pub call : Call
   pub gave : Outcome
 
--- What a list of calls has left: the state, the journal, the entries drained, and k, the number of accepted calls that are no drains.
+-- What a list of calls has left: the state, the journal, the entries drained, and k, the number of accepted calls that are no drains; 02, ticket 8: "01's count k
+-- takes in setup's entry".
 pub record Run : Type 0 where
   pub state : List ℕ
   pub journal : List ℕ
@@ -58,11 +59,11 @@ runs u (d ∷ ds) = runs (after u d) ds
 
 -- before any call, with the state that setup made
 abbrev pub newRun : List ℕ → List ℕ → Run
-newRun s j = record { state = s; journal = j; drained = []; number = 0 }
+newRun s j = record { state = s; journal = j; drained = []; number = 1 }
 
--- "The first is given the state that setup made of that block list, and a journal of any content."
+-- "The first is given the state that setup made of that block list", and by 02, ticket 8, "the journal that setup left"
 unfoldable pub start : Lists → List ℕ → Run
-start l j = newRun (started l .state) j
+start l j = newRun (setUp l j .state) (setUp l j .journal)
 
 -- a call with what the definitions give for it, and a list of them
 abbrev pub doing : Run → Call → Done
@@ -135,7 +136,7 @@ pub record Delivers (view : View) (c handle : ℕ) (r : Outcome) : Type 0 where
   pub exactly : isFound (reached handle r) ≡ showsRegistered view c handle
   pub thatOne : (v : ℕ) → v < serviceCount → isAt v (reached handle r) ≡ showsService view c handle v
 
--- Demand 3, of the lists l that setup was given, its state s, a first journal j and the calls made, each with what it returned and left.
+-- Demand 3, of the lists l that setup was given, the state s and the journal j that it left and the calls made, each with what it returned and left.
 pub record Demand3 (l : Lists) (s j : List ℕ) (ds : List Done) (u : Run) : Type 0 where
   -- "Of all these the s-th has number s; the state's last number is k, and it holds k − d, at most 64."
   pub total : length (entries u) ≡ u .number

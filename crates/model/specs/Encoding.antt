@@ -59,7 +59,7 @@ pub data ResultTold : ℕ → Type 0 where
   nowork : ResultTold 4
 
 -- "a removal has a channel to 3, a handle up to that last number, 1 to 16 records, a position up to their count"; by 02, ticket 7, its handle is "the top bit over
--- 01's range"
+-- 01's range"; ticket 8: "64 records in a request"
 pub record RemovalTold (l : List ℕ) (last : ℕ) (m : Removal) : Type 0 where
   pub channels : m .channel < channelCount
   pub ours : ourHandle 0 ≤ m .handle
@@ -91,7 +91,7 @@ peersCount ps (suc p) = peersCount ps p + markTold (ps p)
 -- entry number used ..": 01's sentence, and what the numbers can be: a minor version has 16 bits, a settled record's result is OK or NOWORK. By 02, ticket 1, its
 -- devices keep their rules too; by ticket 6 a shutdown's delay has 32 bits; by ticket 7 our handles "are the top bit over 01's range", the ids keep their rules, and
 -- "a closed channel has no peer registrations, a ready one at most eight, whose handles lack that bit and differ there, as do their ids, each listed, with no minor
--- above the list's".
+-- above the list's"; by ticket 8 "a state with last number 0 is not sound".
 pub record SoundTold (t : Told) : Type 0 where
   pub lists : acceptedLists (t .lists) ≡ true
   pub onReady : (k handle : ℕ) → k < placeCount → LiveAs (t .service k) handle → t .ready (k / serviceCount) ≡ true
@@ -105,6 +105,7 @@ pub record SoundTold (t : Told) : Type 0 where
       LiveAs (t .service k) handle →
       ⊥
   pub minors : (k handle minor : ℕ) → k < placeCount → t .service k ≡ registered handle minor → minor ≤ highestMinor
+  pub some : 1 ≤ t .last
   pub lasts : t .last ≤ highestNumber
   pub helds : t .held ≤ mostHeld
   pub numbered : t .held ≤ t .last
@@ -206,7 +207,7 @@ servicesTold v zero s = s
 servicesTold v (suc k) s =
     withService (servicesTold v k s) k (stageTold (v k)) (handleTold (v k)) (minorTold (v k))
 
--- a removal with arrays of sixteen
+-- a removal with arrays of the most records
 unfoldable pub removalTold : Removal → Removal
 removalTold m = record {
   cancelled = m .cancelled;

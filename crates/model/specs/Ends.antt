@@ -16,7 +16,8 @@ use Rattle.model.specs.declared.Found.the-variants.{At, Nowhere}
 use Rattle.model.specs.declared.Removal.{Removal}
 use Rattle.model.specs.Layout.{blockWords, blockIn, blockAt, outstandingOf, removalOf}
 use Rattle.model.specs.Blocks.{Lists, namedIn, namedBlock}
-use Rattle.model.specs.Journal.{Entry, eventOf, kindBegun, kindCollected, kindSettled, kindRemovalEnd}
+use Rattle.model.specs.Reading.{settledBlock}
+use Rattle.model.specs.Journal.{newEdition, Entry, eventOf, kindBegun, kindCollected, kindSettled, kindRemovalEnd}
 use Rattle.model.specs.Memory.{DR-MEM-UNCONFIGURE, DR-MEM-RES-OK, addrIn, sizeIn}
 use Rattle.model.specs.Calls.{Action, receive, offer, withdraw, close, work, permit, takeOrder, Call, act, drain, Outcome}
 use Rattle.model.specs.Demand3.{Done, newRun, runs, entries, noEntry, noted}
@@ -96,12 +97,16 @@ pub record SettledOk (e : Entry) : Type 0 where
   pub isSettled : told e .kind ≡ kindSettled
   pub isOk : told e .code ≡ DR-MEM-RES-OK
 
+-- the block of an entry of kind 15
+abbrev pub blockOf : Event → ℕ
+blockOf e = settledBlock newEdition (e .word)
+
 -- its block is listed, and the pages moved before it for its record and by it are that block's
 pub record AddsUp (l : Lists) (before : List Entry) (e : Entry) : Type 0 where
-  pub listed : told e .word < length (l .blocks) / blockWords
-  pub pages : movedSince 0 before + told e .count ≡ blockIn (l .blocks) 0 (told e .word) .pages
+  pub listed : blockOf (told e) < length (l .blocks) / blockWords
+  pub pages : movedSince 0 before + told e .count ≡ blockIn (l .blocks) 0 (blockOf (told e)) .pages
 
--- Of the lists l that setup was given, its state s, a first journal j and the calls made, each with what it returned and left.
+-- Of the lists l that setup was given, the state s and the journal j that it left and the calls made, each with what it returned and left.
 pub record Ends (l : Lists) (s j : List ℕ) (ds : List Done) : Type 0 where
   -- "it has ended by the (P + 1)th accepted work step after its beginning", whatever other calls stand between
   pub ends :

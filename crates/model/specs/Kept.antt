@@ -3,7 +3,7 @@
 -- Assumes nothing.
 use Prim.Native.Nat.{ℕ, _+_, _-_, _*_, _/_, _≤_, _<_, min}
 use mathlib.Core.Path.{_≡_}
-use mathlib.Core.Bool.{true}
+use mathlib.Core.Bool.{true, false}
 use mathlib.Core.List.{List}
 use lib.ListN.{length, getD, drop, take}
 use lib.Dec.{eqb}
@@ -17,18 +17,32 @@ use Rattle.model.specs.Blocks.{Lists}
 use Rattle.model.specs.State.{sound}
 use Rattle.model.specs.Journal.{kindCollected, kindSettled, keepsTable, slotOf, entriesAt, wordsOf, entryAt}
 use Rattle.model.specs.Messages.{registeredAs}
-use Rattle.model.specs.Calls.{Action, Call, act, work, drain, Outcome, outcome, started}
+use Rattle.model.specs.Calls.{Action, Call, act, work, drain, Outcome, outcome, setUp}
 use Rattle.model.specs.Demand3.{runs, start, history, noted}
 
--- Setup's state is sound, every call keeps a sound state sound, and so refusal 8 meets no state that the agent made.
+-- The state of an accepted setup is sound, every call keeps a sound state sound, and so refusal 8 meets no state that the agent made, but the empty one of a refused
+-- setup (02, ticket 8: "a state with last number 0 is not sound").
 pub record SoundnessKept : Type 0 where
-  pub bySetup : (l : Lists) → (sound (started l .state) ≡ true) × (length (started l .state) ≡ stateWords)
+  pub bySetup :
+      (l : Lists) (j : List ℕ) →
+      setUp l j .refusal ≡ 0 →
+      (sound (setUp l j .state) ≡ true) × (length (setUp l j .state) ≡ stateWords)
+  pub refusedSetup : (l : Lists) (j : List ℕ) → (setUp l j .refusal ≡ 0 → ⊥) → sound (setUp l j .state) ≡ false
   pub byCall :
       (s j : List ℕ) (call : Call) →
       length s ≡ stateWords →
       sound s ≡ true →
       (sound (outcome s j call .state) ≡ true) × (length (outcome s j call .state) ≡ stateWords)
-  pub byList : (l : Lists) (j : List ℕ) (calls : List Call) → sound (runs (start l j) (history (start l j) calls) .state) ≡ true
+  pub byList : (l : Lists) (j : List ℕ) (calls : List Call) → setUp l j .refusal ≡ 0 → sound (runs (start l j) (history (start l j) calls) .state) ≡ true
+
+-- A setup, of the journal that it is lent: refused, it "writes nothing anywhere"; else it "adds this entry" (02, ticket 8), in the slot of number 1.
+pub record SetupKept : Type 0 where
+  pub refusedJournal : (l : Lists) (j : List ℕ) → (setUp l j .refusal ≡ 0 → ⊥) → setUp l j .journal ≡ j
+  pub otherSlots :
+      (l : Lists) (j : List ℕ) (i : ℕ) →
+      (i ≡ slotOf 1 → ⊥) →
+      (i ≡ slotOf 1 + 1 → ⊥) →
+      getD (setUp l j .journal) i 0 ≡ getD j i 0
 
 -- what a call may write beside the state and the journal: its output or its run
 unfoldable pub bufferOf : Call → List ℕ

@@ -52,17 +52,16 @@ panicService = 3
 abbrev pub placeCount : ℕ
 placeCount = channelCount * serviceCount
 
--- "Blocks: 0 to 16"
+-- 02, ticket 8: "The larger machines need 64 blocks, and 64 records in a request."
 abbrev pub mostBlocks : ℕ
-mostBlocks = 16
+mostBlocks = 64
 
 -- the most blocks that one search looks at (specs/Search.antt)
 abbrev pub mostLooked : ℕ
 mostLooked = halvings mostBlocks
 
--- "1 to 16 records"
 abbrev pub mostRecords : ℕ
-mostRecords = 16
+mostRecords = 64
 
 -- 02, ticket 1: "up to 32 devices", "name of at most 256 bytes with its zero"
 abbrev pub mostDevices : ℕ
@@ -105,7 +104,7 @@ abbrev pub journalWords : ℕ
 journalWords = mostHeld * entryWords
 
 -- Bytes of messages: DS's header; DATA's, with its handle; the memory service's; a pair of a request; the records of a reply; and the
--- output's "672 bytes", the longest reply.
+-- output's "2,592 bytes", the longest reply.
 abbrev pub dsHeaderBytes : ℕ
 dsHeaderBytes = 8
 

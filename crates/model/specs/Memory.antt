@@ -76,7 +76,7 @@ addrIn b i = numberAt b (memoryHeaderBytes + i * pairBytes) 8
 abbrev pub sizeIn : List ℕ → ℕ → ℕ
 sizeIn b i = numberAt b (memoryHeaderBytes + 8 + i * pairBytes) 8
 
--- "argument n from 1 to 16, exactly 16n bytes (addr, size) after the header". A pair may stand twice (02, ticket 2: "01 is wrong").
+-- "argument n from 1 to 16, exactly 16n bytes (addr, size) after the header"; 02, ticket 8: "64 records in a request". A pair may stand twice (02, ticket 2: "01 is wrong").
 unfoldable pub hasRecords : List ℕ → Bool
 hasRecords b =
     leb 1 (argumentOf b)

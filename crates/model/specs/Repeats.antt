@@ -59,7 +59,8 @@ answerIn reply i = take queryBytes (drop (replyHeaderBytes + i * queryBytes) rep
 abbrev pub requestIn : List ℕ → List ℕ
 requestIn m = drop dataHeaderBytes m
 
--- a request with n records, by its bytes: "argument n from 1 to 16, exactly 16n bytes (addr, size) after the header"
+-- a request with n records, by its bytes: "argument n from 1 to 16, exactly 16n bytes (addr, size) after the header"; 02, ticket 8: "64
+-- records in a request"
 pub record Requests (b : List ℕ) (type n : ℕ) : Type 0 where
   pub isType : requestType b ≡ type
   pub argument : argumentOf b ≡ n
@@ -86,7 +87,7 @@ pub record Begun (b : List ℕ) (n : ℕ) (r : Outcome) : Type 0 where
 abbrev pub leftBy : List ℕ → List ℕ → List Done → List ℕ
 leftBy s j before = runs (newRun s j) before .state
 
--- Of setup's state s, a first journal j and the calls made, each with what it returned and left.
+-- Of the state s and the journal j that setup left and the calls made, each with what it returned and left.
 pub record Repeats (s j : List ℕ) (ds : List Done) : Type 0 where
   pub unconfigured : settledUnconfigured (runs (newRun s j) ds .state) ≡ true
   -- "A repeat is handled in its turn": while none is outstanding an UNCONFIGURE is begun with its pairs as they are, repeats and all

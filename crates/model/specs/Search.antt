@@ -120,6 +120,8 @@ pub record SearchHolds : Type 0 where
   pub atMost : (l : List ℕ) (at n addr size : ℕ) → length (searchIn l at n addr size .looked) ≤ halvings n
   pub halves : (n : ℕ) → 1 ≤ n → halvings n ≡ halvings (n / 2) + 1
   pub forSixteen : halvings 16 ≡ 5
+  -- of 02, ticket 8's "64 blocks"
+  pub forSixtyFour : halvings 64 ≡ 7
   -- the same of what the code's search returns for two states: "the same there" at the places that it tells
   pub returned :
       (s s′ : List ℕ) (addr size : ℕ) (r r′ : Searched) →

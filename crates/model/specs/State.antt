@@ -1,4 +1,4 @@
--- "A state is sound if ..". Beyond the sentences of 01 and 02 a word that no reading could mean (a ready, configured, busy, outstanding or cancelled flag above 1, a
+-- "A state is sound if ..", and by 02, ticket 8, "a state with last number 0 is not sound". Beyond the sentences of 01 and 02 a word that no reading could mean (a ready, configured, busy, outstanding or cancelled flag above 1, a
 -- byte other than 0 after a device's name or an id in its last word, a permission above 1, an order above 2, a shutdown's delay of more than 32 bits, a stage above
 -- 2, a registered minor, or an id's major or minor, above 65,535, a mark of a peer registration above 1, a settled record's result other than OK or NOWORK) makes a
 -- state not sound. Words without a meaning in the present state (an idle service's handle and minor, an offered one's minor, blocks past the count, a removal's
@@ -72,7 +72,7 @@ unfoldable pub resultsSound : Removal → Bool
 resultsSound m = every (m .position) (λ i. resultSound (getD (m .result) i 0))
 
 -- "a removal has a channel to 3, a handle up to that last number, 1 to 16 records, a position up to their count, and pages collected .."; 02, ticket 7: "ours, the
--- removal's too, are the top bit over 01's range"
+-- removal's too, are the top bit over 01's range"; ticket 8: "64 records in a request"
 unfoldable pub removalSound : List ℕ → ℕ → Removal → Bool
 removalSound s last m =
     ltb (m .channel) channelCount
@@ -104,6 +104,7 @@ sound s =
     and every channelCount (λ c. leb (readyAt s c) 1)
     and every placeCount (λ k. serviceSoundAt s k)
     and every placeCount (λ k. handleApart s k)
+    and leb 1 (lastOf s)
     and leb (lastOf s) highestNumber
     and leb (heldOf s) mostHeld
     and leb (heldOf s) (lastOf s)

@@ -1,13 +1,13 @@
 -- What the tests of a channel's peer registrations come to, past those that have passed.
 -- Assumes nothing.
-use mathlib.Core.Path.{_≡_, refl, sym, ap, _∙_}
+use mathlib.Core.Path.{_≡_, refl, sym, _∙_}
 use mathlib.Core.Bool.{Bool, true, false, not}
 use mathlib.Core.List.{List}
 use Prim.Native.Nat.{ℕ, zero, suc, _+_, _<_, _≤_}
 use native.Mathlib.Omega.{arith}
 use native.Mathlib.Numerals.{add-one}
 use lib.Dec.{eqb, leb}
-use borrow.Author.Tests.{eqb-true, leb-true, ltb-true, eq-eqb, ne-eqb, lt-ltb, le-leb}
+use borrow.Author.Tests.{eqb-true, ltb-true, eq-eqb, ne-eqb, lt-ltb}
 use Rattle.model.specs.Choice.{_and_, _or_, every}
 use Rattle.model.specs.Layout.{mostIds, mostPeers, idsOf, idAt, peeredAt, peerHandleAt, peerMinorAt}
 use Rattle.model.specs.Peers.{topBit, peersBelow, peerSound, peerApart, peersSound}

@@ -6,18 +6,17 @@ use Prim.Native.Nat.{ℕ, _+_, _-_, _*_, _%_, _≤_}
 use native.Mathlib.Nat.{zero-add}
 use native.Mathlib.Numerals.{add-one}
 use native.Mathlib.Omega.{arith}
-use lib.ListN.{length, getD, take, drop, length-append}
+use lib.ListN.{length, take, drop, length-append}
 use lib.Seq.{sets, sets-eq, drop-drop}
 use Rattle.wire.specs.BigEndian.{bytesOf, written}
 use Rattle.wire.proofs.Laws.{length-bytes, bytes-low, sets-append, sets-written, sets-whole}
 use Rattle.model.specs.Choice.{joined}
 use Rattle.model.specs.Layout.{replyHeaderBytes, resultBytes, dsHeaderBytes, mostRecords, outputBytes}
 use Rattle.model.specs.Messages.{dsMessage, dsData}
-use Rattle.model.specs.Memory.{memoryReply, DR-MEM-OK, resultRecord}
+use Rattle.model.specs.Memory.{memoryReply, DR-MEM-OK}
 use Rattle.model.proofs.Choice.{joined-length}
-use Rattle.model.proofs.Replies.{memory-length, result-length}
+use Rattle.model.proofs.Replies.{memory-length}
 use Rattle.records.specs.Header.{memoryHeader}
-use Rattle.records.specs.Results.{ResultsWritten}
 
 -- four bytes of a remainder are those of the number
 pub low-bytes : (v at : ℕ) (l : List ℕ) {l′ : List ℕ} → l′ ≡ sets l at (bytesOf 4 (v % 4294967296)) → l′ ≡ sets l at (bytesOf 4 v)
@@ -40,13 +39,18 @@ part-sets l v at k e h =
     ∙ sym (append-assoc (take at l) v (drop (at + length v) l))
     ∙ sym (sets-eq v l at (omega arith))
 
+-- a record in its part is a run of stores
+pub record-put : (k : ℕ) (l v w : List ℕ) (i size : ℕ) → v ≡ w → length w ≡ k → size ≡ k → replyHeaderBytes + i * k + k ≤ length l
+    → take (replyHeaderBytes + i * k) l ++ (v ++ drop size (drop (replyHeaderBytes + i * k) l)) ≡ sets l (replyHeaderBytes + i * k) w
+record-put k l v w i size this long whole h =
+    part-sets l v (replyHeaderBytes + i * k) size (ap length this ∙ long ∙ sym whole) (omega arith) ∙ ap (sets l (replyHeaderBytes + i * k)) this
+
 -- one record more, each of k bytes, after the headers
 pub record-more : (f : ℕ → List ℕ) (k : ℕ) → ((i : ℕ) → length (f i) ≡ k) → (l₀ l v : List ℕ) (i size : ℕ) → l ≡ sets l₀ replyHeaderBytes (joined f i) → v ≡ f i → size ≡ k → replyHeaderBytes + i * k + k ≤ length l
     → take (replyHeaderBytes + i * k) l ++ (v ++ drop size (drop (replyHeaderBytes + i * k) l)) ≡ sets l₀ replyHeaderBytes (joined f (i + 1))
 unfolding joined
 record-more f k each l₀ l v i size stored this whole h =
-    part-sets l v (replyHeaderBytes + i * k) size (ap length this ∙ each i ∙ sym whole) (omega arith)
-    ∙ rw (stored, this, ← joined-length f k i each, sets-append, add-one i)
+    record-put k l v (f i) i size this (each i) whole h ∙ rw (stored, ← joined-length f k i each, sets-append, add-one i)
 
 header-length : (handle type argument request rest : ℕ) → length (memoryHeader handle type argument request rest) ≡ replyHeaderBytes
 unfolding memoryHeader
@@ -77,15 +81,24 @@ module _ (handle type argument request : ℕ) (records out : List ℕ) where
       ∙ sets-written (memoryReply handle type argument request records) out
       (omega (arith, memory-length handle type argument request records))
 
--- records of results after the headers
-pub results-stored : (s : List ℕ) (handle request : ℕ) (address size result : List ℕ) (n : ℕ) (out : List ℕ) {out₁ out₂ : List ℕ} → n ≤ mostRecords → outputBytes ≤ length out
-    → out₁ ≡ sets out 0 (memoryHeader handle DR-MEM-OK n request (n * resultBytes))
-    → out₂ ≡ sets out₁ replyHeaderBytes (joined (λ i. resultRecord s (getD address i 0) (getD size i 0) (getD result i 0)) n)
-    → ResultsWritten s handle request address size result n out (replyHeaderBytes + n * resultBytes) out₂
-results-stored s handle request address size result n out few room first second =
-    let f : ℕ → List ℕ = λ i. resultRecord s (getD address i 0) (getD size i 0) (getD result i 0) in
-    let long = joined-length f resultBytes n (λ i. result-length s (getD address i 0) (getD size i 0) (getD result i 0)) in
+-- one result more
+pub result-more : (f : ℕ → List ℕ) → ((i : ℕ) → length (f i) ≡ resultBytes) → (l₀ : List ℕ) {l l′ v : List ℕ} (i : ℕ) → l ≡ sets l₀ replyHeaderBytes (joined f i) → l′ ≡ sets l (replyHeaderBytes + i * resultBytes) v → v ≡ f i → l′ ≡ sets l₀ replyHeaderBytes (joined f (i + 1))
+unfolding joined
+result-more f each l₀ i stored more this = more ∙ rw (stored, this, ← joined-length f resultBytes i each, sets-append, add-one i)
+
+-- a reply at the start of an output, and its length
+pub record Replied (reply out : List ℕ) (r : ℕ) (out′ : List ℕ) : Type 0 where
+  pub long : r ≡ length reply
+  pub output : out′ ≡ written reply out
+
+-- the headers, and then a result for each record
+pub results-stored : (handle request n : ℕ) (f : ℕ → List ℕ) → ((i : ℕ) → length (f i) ≡ resultBytes) → (out : List ℕ) {out₁ out₂ : List ℕ} {r : ℕ} → n ≤ mostRecords → outputBytes ≤ length out
+    → (r ≡ replyHeaderBytes + n * resultBytes) × (out₁ ≡ sets out 0 (memoryHeader handle DR-MEM-OK n request (n * resultBytes)))
+    → out₂ ≡ sets out₁ replyHeaderBytes (joined f n)
+    → Replied (memoryReply handle DR-MEM-OK n request (joined f n)) out r out₂
+results-stored handle request n f each out few room first second =
+    let long = joined-length f resultBytes n each in
     record {
-      long = reply-length handle DR-MEM-OK n request (joined f n) out long;
-      output = reply-stored handle DR-MEM-OK n request (joined f n) out (n * resultBytes) long (omega arith) first second;
+      long = first .0 ∙ reply-length handle DR-MEM-OK n request (joined f n) out long;
+      output = reply-stored handle DR-MEM-OK n request (joined f n) out (n * resultBytes) long (omega arith) (first .1) second;
     }

@@ -3,24 +3,21 @@ use model::DR_MEM_OK;
 use model::DS_DATA;
 use model::DS_HEADER_BYTES;
 use model::Found;
-use model::MOST_RECORDS;
 use model::REPLY_HEADER_BYTES;
 use model::RESULT_BYTES;
 use model::State;
 ghost use mathlib.Core.Path.{_≡_};
 ghost use mathlib.Core.List.{[], _++_};
-ghost use Prim.Native.Nat.{_+_, _≤_, _<_};
-ghost use lib.ListN.{length, getD};
+ghost use Prim.Native.Nat.{_+_, _*_, _≤_, _<_};
+ghost use lib.ListN.{length};
 ghost use lib.Seq.{sets};
 ghost use Rattle.wire.specs.BigEndian.{bytesOf};
-ghost use Rattle.model.specs.Choice.{joined};
 ghost use Rattle.model.specs.declared.Found.the-variants.{At};
 ghost use Rattle.model.specs.Layout.{mostBlocks, mostRecords, outputBytes, replyHeaderBytes, resultBytes};
 ghost use Rattle.model.specs.Search.{BlocksInOrder};
-ghost use Rattle.model.specs.Memory.{statusOf, resultRecord, statusAt, memoryReply};
+ghost use Rattle.model.specs.Memory.{DR-MEM-OK, statusOf, resultRecord, statusAt, memoryReply};
 ghost use Rattle.wire.specs.BigEndian.{written};
 ghost use Rattle.records.specs.Header.{memoryHeader};
-ghost use Rattle.records.specs.Results.{ResultsWritten};
 
 // the bytes of a reply's payload before its records
 const PAYLOAD_HEADER_BYTES: usize = REPLY_HEADER_BYTES - DS_HEADER_BYTES;
@@ -73,26 +70,15 @@ pub fn put_result_record(part: &mut [u8], addr: u64, size: u64, result: u64, sta
     wire::put32(part, 24, 0);
 }
 
-// `n` of them after the headers: each is lent its own part, and no other byte is touched.
-pub fn put_result_records(
-    state: &State,
-    out: &mut [u8],
-    address: [u64; MOST_RECORDS],
-    size: [u64; MOST_RECORDS],
-    result: [u64; MOST_RECORDS],
-    n: usize,
-)
-    requires { ⌜ (n ≤ mostRecords) × BlocksInOrder (now state) × (outputBytes ≤ length (now out)) ⌝ }
-    ensures { λ _. ⌜ now (out .exit) ≡ sets (now (out .entry)) replyHeaderBytes (joined (λ i. resultRecord (now (state .entry)) (getD address i 0) (getD size i 0) (getD result i 0)) n) ⌝ }
+// Record `i` of a reply, with the status of its block: it is lent its own part, and no other byte is touched.
+pub fn put_result(state: &State, out: &mut [u8], i: usize, addr: u64, size: u64, result: u64)
+    requires { ⌜ (i < mostRecords) × BlocksInOrder (now state) × (outputBytes ≤ length (now out)) ⌝ }
+    ensures { λ _. ⌜ now (out .exit) ≡ sets (now (out .entry)) (replyHeaderBytes + i * resultBytes) (resultRecord (now (state .entry)) addr size result) ⌝ }
 {
-    let mut i: usize = 0;
-    while i < n {
-        let status = status_of(state, address[i], size[i]);
-        let at = REPLY_HEADER_BYTES + i * RESULT_BYTES;
-        let end = at + RESULT_BYTES;
-        put_result_record(&mut out[at..end], address[i], size[i], result[i], status);
-        i += 1;
-    }
+    let status = status_of(state, addr, size);
+    let at = REPLY_HEADER_BYTES + i * RESULT_BYTES;
+    let end = at + RESULT_BYTES;
+    put_result_record(&mut out[at..end], addr, size, result, status);
 }
 
 // A reply without records.
@@ -103,21 +89,11 @@ pub fn put_bare(out: &mut [u8], handle: u64, kind: u32, request: u64)
     put_header(out, handle, kind, 0, request, 0);
 }
 
-// The reply with a result for each record, and its length.
-pub fn put_results(
-    state: &State,
-    handle: u64,
-    request: u64,
-    address: [u64; MOST_RECORDS],
-    size: [u64; MOST_RECORDS],
-    result: [u64; MOST_RECORDS],
-    n: usize,
-    out: &mut [u8],
-) -> usize
-    requires { ⌜ BlocksInOrder (now state) × (n ≤ mostRecords) × (outputBytes ≤ length (now out)) ⌝ }
-    ensures { λ r. ⌜ ResultsWritten (now (state .entry)) handle request address size result n (now (out .entry)) r (now (out .exit)) ⌝ }
+// The headers of a reply with a result for each of `n` records, and the reply's length.
+pub fn put_results_header(out: &mut [u8], handle: u64, request: u64, n: usize) -> usize
+    requires { ⌜ (n ≤ mostRecords) × (outputBytes ≤ length (now out)) ⌝ }
+    ensures { λ r. ⌜ (r ≡ replyHeaderBytes + n * resultBytes) × (now (out .exit) ≡ sets (now (out .entry)) 0 (memoryHeader handle DR-MEM-OK n request (n * resultBytes))) ⌝ }
 {
     put_header(out, handle, DR_MEM_OK, n as u32, request, n * RESULT_BYTES);
-    put_result_records(state, out, address, size, result, n);
     REPLY_HEADER_BYTES + n * RESULT_BYTES
 }

@@ -1,33 +1,39 @@
 -- The cases of a removal's work step, the late reply, and what a sound state gives.
 -- Assumes nothing.
-use mathlib.Core.Path.{_≡_, refl, ap, _∙_}
+use mathlib.Core.Path.{_≡_, refl, sym, ap, _∙_}
 use mathlib.Core.Bool.{Bool, true, false}
 use mathlib.Core.List.{List, []}
-use Prim.Native.Nat.{ℕ, _+_, _-_, _<_, _≤_, min}
+use Prim.Native.Nat.{ℕ, _+_, _-_, _*_, _<_, _≤_, min}
 use native.Mathlib.Omega.{arith}
 use lib.ListN.{length, getD}
+use lib.Seq.{sets}
 use lib.Dec.{eqb, ltb}
-use borrow.Author.Tests.{eqb-true, leb-false, ltb-true, ne-eqb, eq-eqb, lt-leb, le-leb}
+use borrow.Author.Tests.{eqb-true, leb-false, ltb-true, ne-eqb, eq-eqb, lt-leb, le-leb, lt-ltb, le-ltb}
 use Rattle.wire.specs.BigEndian.{written}
-use Rattle.model.specs.Choice.{pick, _and_, _or_, tabulate}
+use Rattle.model.specs.Choice.{pick, _or_, joined}
 use Rattle.model.specs.declared.Event.{Event}
 use Rattle.model.specs.declared.Found.{Found}
 use Rattle.model.specs.declared.Found.the-variants.{At, Nowhere}
 use Rattle.model.specs.declared.Removal.{Removal}
-use Rattle.model.specs.Layout.{removalOf, blockAt, isSet, lastOf, mostRecords, outstandingOf, withConfigured, withRemoval, withoutRemoval}
+use Rattle.model.specs.Layout.{removalOf, blockAt, isSet, lastOf, cancelledOf, cancelledWord, firstAddressWord, firstNumberedWord, firstResultWord, firstSizeWord, mostBlocks, mostRecords, outputBytes, outstandingOf, outstandingWord, positionWord, replyHeaderBytes, resultBytes, withConfigured, withRemoval, withoutRemoval}
+use Rattle.model.specs.Blocks.{namedBlock}
 use Rattle.model.specs.State.{sound, collectedSound, removalRoom, roomAt}
 use Rattle.model.specs.Journal.{collectedEvent, removalEndEvent, settledEvent}
 use Rattle.model.specs.Messages.{effect}
-use Rattle.model.specs.Memory.{resultRecord, DR-MEM-OK, DR-MEM-RES-CANCELLED, DR-MEM-RES-NOWORK, DR-MEM-RES-OK, memoryReply}
+use Rattle.model.specs.Memory.{resultRecord, DR-MEM-OK, DR-MEM-RES-CANCELLED, DR-MEM-RES-FAILURE, DR-MEM-RES-NOWORK, DR-MEM-RES-OK, memoryReply}
 use Rattle.model.specs.Work.{lateReply, addrNow, allSettled, blockNow, collecting, collects, endCode, ending, failingCode, moving, pagesMoved, resultAt, settled, sizeNow, stepOf, stillRegistered, working, worksAt, worksOn}
 use Rattle.model.specs.Handler.{Handles, HandlesSilently, HandlesStep}
-use Rattle.model.proofs.Choice.{on-pick, or-false, tabulate-at, joined-same}
+use Rattle.model.proofs.Choice.{on-pick, or-false, pick-true, pick-false}
+use Rattle.model.proofs.Words.{Agree, configured-frame, removal-same}
+use Rattle.model.proofs.Replies.{result-length}
 use Rattle.model.proofs.Rules.{RemovalFacts, sound-facts, sound-block}
 use Rattle.model.proofs.Search.{sound-in-order}
 use Rattle.model.proofs.Sounds.{named-less}
 use Rattle.model.proofs.Handlers.{silent-handles}
-use Rattle.records.specs.Results.{resultsReply, ResultsWritten}
-use Rattle.removal.specs.Fits.{resultBy, Fits, CanWork, GoesOn, StepsSilently}
+use Rattle.records.specs.Header.{memoryHeader}
+use Rattle.records.proofs.Parts.{results-stored}
+use Rattle.removal_state.proofs.Laws.{address-is, cancelled-is, position-is, result-is, size-is}
+use Rattle.removal.specs.Fits.{lateRecord, Fits, Held, CanWork, GoesOn, StepsSilently}
 
 -- the code of the end
 module _ (s : List ℕ) (m : Removal) where
@@ -43,49 +49,65 @@ module _ (s : List ℕ) (m : Removal) where
   unfolding endCode pick
   code-failing go h = rw (go, lt-leb _ _ h)
 
--- with the code of the end they are the definition's results
-results-are : (s : List ℕ) (m : Removal) (code : ℕ) → code ≡ endCode s m → (i : ℕ) → resultBy (m .position) (m .result) (m .cancelled) code i ≡ resultAt s m i
-unfolding resultAt
-results-are s m code e i = rw e
+-- the block that the record at the position names, by the words read
+pub block-read : (s : List ℕ) {at addr size : ℕ} → at ≡ getD s positionWord 0 → removalOf s .position < mostRecords → addr ≡ getD s (firstAddressWord + at) 0 → size ≡ getD s (firstSizeWord + at) 0 → namedBlock s addr size ≡ blockNow s (removalOf s)
+block-read s {at} p l a z =
+    let h : at < mostRecords = omega (arith, position-is s p) in
+    rw (← position-is s p, address-is s at h, size-is s at h, ← a, ← z)
 
--- the reply with those results is the late reply
-late-same : (s : List ℕ) (m : Removal) (code : ℕ) (result : List ℕ) → m .count ≤ mostRecords → code ≡ endCode s m → result ≡ tabulate (resultBy (m .position) (m .result) (m .cancelled) code) mostRecords → resultsReply s (m .handle) (m .request) (m .address) (m .size) result (m .count) ≡ lateReply s m
+-- record i's result at the end, by the words read
+module _ (s : List ℕ) (i : ℕ) {position : ℕ} (p : position ≡ getD s positionWord 0) where
+  pub result-settled : {r : ℕ} → i < mostRecords → i < position → r ≡ getD s (firstResultWord + i) 0 → r ≡ resultAt s (removalOf s) i
+  unfolding resultAt
+  result-settled h l e = e ∙ sym (pick-true _ _ _ (lt-ltb _ _ (rw (position-is s p) at l)) ∙ result-is s i h)
+
+  module _ (l : position ≤ i) {x : Bool} (e : x ≡ isSet (cancelledOf s)) where
+    not-settled : resultAt s (removalOf s) i ≡ pick (removalOf s .cancelled) DR-MEM-RES-CANCELLED (pick (eqb i (removalOf s .position)) (endCode s (removalOf s)) DR-MEM-RES-FAILURE)
+    unfolding resultAt
+    not-settled = pick-false _ _ _ (le-ltb _ _ (rw (position-is s p) at l))
+
+    pub result-cancelled : x ≡ true → DR-MEM-RES-CANCELLED ≡ resultAt s (removalOf s) i
+    result-cancelled f = sym (not-settled ∙ pick-true _ _ _ (cancelled-is s e f))
+
+    pub result-failing : {code : ℕ} → x ≡ false → i ≡ position → code ≡ endCode s (removalOf s) → code ≡ resultAt s (removalOf s) i
+    result-failing f q c = c ∙ sym (not-settled ∙ pick-false _ _ _ (cancelled-is s e f) ∙ pick-true _ _ _ (eq-eqb _ _ (q ∙ position-is s p)))
+
+    pub result-after : x ≡ false → (i ≡ position → ⊥) → DR-MEM-RES-FAILURE ≡ resultAt s (removalOf s) i
+    result-after f d = sym (not-settled ∙ pick-false _ _ _ (cancelled-is s e f) ∙ pick-false _ _ _ (ne-eqb _ _ (λ q. d (q ∙ sym (position-is s p)))))
+
+-- a record of the late reply
+pub late-record : (s : List ℕ) (i : ℕ) {addr size r : ℕ} → i < mostRecords → addr ≡ getD s (firstAddressWord + i) 0 → size ≡ getD s (firstSizeWord + i) 0 → r ≡ resultAt s (removalOf s) i → resultRecord s addr size r ≡ lateRecord s i
+late-record s i h a z e = rw (address-is s i h, size-is s i h, a, z, e)
+
+pub late-written : (s out : List ℕ) {n handle request l : ℕ} {out₁ out′ : List ℕ} → n ≡ removalOf s .count → handle ≡ removalOf s .handle → request ≡ removalOf s .request → removalOf s .count ≤ mostRecords → outputBytes ≤ length out
+    → (l ≡ replyHeaderBytes + n * resultBytes) × (out₁ ≡ sets out 0 (memoryHeader handle DR-MEM-OK n request (n * resultBytes)))
+    → out′ ≡ sets out₁ replyHeaderBytes (joined (lateRecord s) n)
+    → (l ≡ length (lateReply s (removalOf s))) × (out′ ≡ written (lateReply s (removalOf s)) out)
 unfolding lateReply
-late-same s m code result few c e =
-    ap (memoryReply (m .handle) DR-MEM-OK (m .count) (m .request))
-    (joined-same (λ i. resultRecord s (getD (m .address) i 0) (getD (m .size) i 0) (resultAt s m i))
-    (λ i. resultRecord s (getD (m .address) i 0) (getD (m .size) i 0) (getD result i 0)) (m .count)
-    (λ i l.
-    ap (λ (r : ℕ). resultRecord s (getD (m .address) i 0) (getD (m .size) i 0) r)
-    (ap (λ (t : List ℕ). getD t i 0) e
-    ∙ tabulate-at (resultBy (m .position) (m .result) (m .cancelled) code) mostRecords i 0 (omega arith)
-    ∙ results-are s m code c i)))
-
-pub late-written : (s : List ℕ) (m : Removal) (code : ℕ) (result out : List ℕ) {r : ℕ} {out′ : List ℕ} → m .count ≤ mostRecords → code ≡ endCode s m → result ≡ tabulate (resultBy (m .position) (m .result) (m .cancelled) code) mostRecords → ResultsWritten s (m .handle) (m .request) (m .address) (m .size) result (m .count) out r out′ → (r ≡ length (lateReply s m)) × (out′ ≡ written (lateReply s m) out)
-late-written s m code result out few c e w =
-    let same = late-same s m code result few c e in
-    (w .long ∙ ap length same, w .output ∙ ap (λ (l : List ℕ). written l out) same)
+late-written s out {n} {handle} {request} c h q few room first second =
+    let r = results-stored handle request n (lateRecord s) (λ i. result-length s _ _ _) out (omega arith) room first second in
+    let same : memoryReply handle DR-MEM-OK n request (joined (lateRecord s) n) ≡ lateReply s (removalOf s) = rw (c, h, q) in
+    (r .long ∙ ap length same, r .output ∙ ap (λ (x : List ℕ). written x out) same)
 
 -- What a sound state with a removal gives.
-module _ (s : List ℕ) (m : Removal) (loaded : m ≡ removalOf s) (good : sound s ≡ true) (out : isSet (outstandingOf s) ≡ true) where
-  pub facts : RemovalFacts s (lastOf s) m
-  facts = rw loaded (sound-facts s good .removal out .facts)
+module _ (s : List ℕ) (good : sound s ≡ true) (out : isSet (outstandingOf s) ≡ true) where
+  pub facts : RemovalFacts s (lastOf s) (removalOf s)
+  facts = sound-facts s good .removal out .facts
 
-  pub fits : Fits s m
+  pub fits : Fits s (removalOf s)
   fits = record { blocks = sound-in-order s good; records = facts .few }
 
-  pub can-work : (m .cancelled or allSettled m) ≡ false → CanWork s m
-  can-work e = record {
-    isSound = good;
-    channel = facts .channels;
-    fits = fits;
-    more = leb-false _ _ (or-false _ _ e .1);
-    room = facts .room;
-  }
-
--- a removal that is not over is not cancelled
-pub not-over : (m : Removal) → (m .cancelled or allSettled m) ≡ false → m .position < m .count
-not-over m e = leb-false _ _ (or-false _ _ e .1)
+  pub can-work : (removalOf s .cancelled or allSettled (removalOf s)) ≡ false → CanWork s
+  can-work e =
+      let o = sound-facts s good .removal out in
+      record {
+        isSound = good;
+        held = record { one = o .one; flag = o .flag };
+        channel = facts .channels;
+        fits = fits;
+        more = leb-false _ _ (or-false _ _ e .1);
+        room = facts .room;
+      }
 
 below-room : (n room pages : ℕ) → collectedSound n room ≡ true → room ≤ pages → 1 ≤ pages → n < pages
 unfolding collectedSound pick
@@ -95,10 +117,9 @@ below-room n room pages e l some = go (eqb room 0) refl e
     go true q t = let z = eqb-true n 0 t in omega arith
     go false q t = let z = ltb-true n room t in omega arith
 
-pub goes-on : (s : List ℕ) (m : Removal) (i : ℕ) → CanWork s m → blockNow s m ≡ At i → GoesOn s m i
-unfolding removalRoom roomAt
-goes-on s m i w e =
-    let less = named-less s (addrNow m) (sizeNow m) i e in
+pub goes-on : (s : List ℕ) (i : ℕ) → CanWork s → blockNow s (removalOf s) ≡ At i → GoesOn s (removalOf s) i
+goes-on s i w e =
+    let less = named-less s (addrNow (removalOf s)) (sizeNow (removalOf s)) i e in
     let k = sound-block s i (w .isSound) less in
     record {
       known = omega (arith, less, w .fits .blocks);
@@ -106,7 +127,7 @@ goes-on s m i w e =
       remain = below-room _ _ _ (w .room) room (k .some);
     }
   where
-    room : removalRoom s m ≤ blockAt s i .pages
+    room : removalRoom s (removalOf s) ≤ blockAt s i .pages
     room =
         unfold removalRoom roomAt in
         (on-pick (λ (n : ℕ). n ≤ blockAt s i .pages) _ _ _
@@ -114,33 +135,40 @@ goes-on s m i w e =
         (λ _. omega arith))
 
 -- The end.
-module _ (s : List ℕ) (m : Removal) (out : List ℕ) {e : Event} {s′ : List ℕ} where
-  pub ends-replied : {code l : ℕ} {out′ : List ℕ} → stillRegistered s m ≡ true → code ≡ endCode s m → (l ≡ length (lateReply s m)) × (out′ ≡ written (lateReply s m) out) → e ≡ removalEndEvent (m .channel) code 1 (m .request) → s′ ≡ withoutRemoval s → Handles (ending s m) out l e s′ out′
+module _ (s : List ℕ) (m : Removal) (out : List ℕ) {c request : ℕ} (p : c ≡ m .channel) (q : request ≡ m .request) {e : Event} {s′ : List ℕ} where
+  pub ends-replied : {code l : ℕ} {out′ : List ℕ} → stillRegistered s m ≡ true → code ≡ endCode s m → (l ≡ length (lateReply s m)) × (out′ ≡ written (lateReply s m) out) → e ≡ removalEndEvent c code 1 request → s′ ≡ withoutRemoval s → Handles (ending s m) out l e s′ out′
   unfolding ending pick
-  ends-replied r c w notes state =
-      rw r (record { length′ = w .0; notes = notes ∙ rw c; state = state; output = w .1 })
+  ends-replied r k w notes state =
+      rw r (record { length′ = w .0; notes = notes ∙ rw (p, q, k); state = state; output = w .1 })
 
-  pub ends-silent : {code : ℕ} → stillRegistered s m ≡ false → code ≡ endCode s m → e ≡ removalEndEvent (m .channel) code 0 (m .request) → s′ ≡ withoutRemoval s → Handles (ending s m) out 0 e s′ out
+  pub ends-silent : {code : ℕ} → stillRegistered s m ≡ false → code ≡ endCode s m → e ≡ removalEndEvent c code 0 request → s′ ≡ withoutRemoval s → Handles (ending s m) out 0 e s′ out
   unfolding ending pick written
-  ends-silent r c notes state =
-      rw r (record { length′ = refl; notes = notes ∙ rw c; state = state; output = refl })
+  ends-silent r k notes state =
+      rw r (record { length′ = refl; notes = notes ∙ rw (p, q, k); state = state; output = refl })
 
--- what was stored, said otherwise
-pub stored-as : (s : List ℕ) (x y : Removal) {s′ : List ℕ} → s′ ≡ withRemoval s x → x ≡ y → s′ ≡ withRemoval s y
-stored-as s x y p q = p ∙ ap (withRemoval s) q
+-- a block's flag is no part of the removal
+module _ (s : List ℕ) (i : ℕ) (h : i < mostBlocks) {t : List ℕ} (e : t ≡ withConfigured s i 0) where
+  flag-left : Agree s (withConfigured s i 0) outstandingWord firstNumberedWord
+  flag-left j lo hi = configured-frame s i 0 j (λ a b. omega arith)
+
+  pub removal-kept : removalOf t ≡ removalOf s
+  removal-kept = ap removalOf e ∙ removal-same s (withConfigured s i 0) flag-left
+
+  pub held-kept : Held s → Held t
+  held-kept k = rw e (record { one = flag-left outstandingWord (omega arith) (omega arith) ∙ k .one; flag = omega (arith, flag-left cancelledWord (omega arith) (omega arith), k .flag) })
 
 -- The steps of block i.
-module _ (s : List ℕ) (m : Removal) (i : ℕ) {e : Event} {s′ : List ℕ} where
-  pub collects-last : {n : ℕ} {s₁ : List ℕ} → m .collected + n ≡ blockAt s i .pages → s₁ ≡ withConfigured s i 0
-      → HandlesSilently (effect (settledEvent (m .channel) (m .position) DR-MEM-RES-OK n i) (withRemoval s₁ (settled m DR-MEM-RES-OK)) []) 0 e s′
-      → HandlesSilently (collects s m i n) 0 e s′
-  unfolding collects pick
-  collects-last q first h = rw (eq-eqb _ _ q, ← first) h
+pub collects-last : (s : List ℕ) (i : ℕ) {n : ℕ} {e : Event} {s₁ s′ : List ℕ} → i < mostBlocks → removalOf s .collected + n ≡ blockAt s i .pages → s₁ ≡ withConfigured s i 0
+    → HandlesSilently (effect (settledEvent (removalOf s₁ .channel) (removalOf s₁ .position) DR-MEM-RES-OK n i) (withRemoval s₁ (settled (removalOf s₁) DR-MEM-RES-OK)) []) 0 e s′
+    → HandlesSilently (collects s (removalOf s) i n) 0 e s′
+unfolding collects pick
+collects-last s i k q first h = rw (eq-eqb _ _ q, ← first) (rw (removal-kept s i k first) at h)
 
-  pub collects-some : {n : ℕ} → (m .collected + n ≡ blockAt s i .pages → ⊥) → s′ ≡ withRemoval s (collecting m n) → e ≡ collectedEvent (m .channel) n
+module _ (s : List ℕ) (m : Removal) (i : ℕ) {e : Event} {s′ : List ℕ} where
+  pub collects-some : {n : ℕ} → (m .collected + n ≡ blockAt s i .pages → ⊥) → s′ ≡ withRemoval s (collecting m n) → {c : ℕ} → c ≡ m .channel → e ≡ collectedEvent c n
       → HandlesSilently (collects s m i n) 0 e s′
   unfolding collects pick
-  collects-some d state notes = rw (ne-eqb _ _ d) (record { noReply = refl; length′ = refl; notes = notes; state = state })
+  collects-some d state q notes = rw (ne-eqb _ _ d) (record { noReply = refl; length′ = refl; notes = notes ∙ rw q; state = state })
 
   pub works-nowork : (budget : ℕ) → blockAt s i .configured ≡ 0
       → HandlesSilently (effect (settledEvent (m .channel) (m .position) DR-MEM-RES-NOWORK 0 i) (withRemoval s (settled m DR-MEM-RES-NOWORK)) []) 0 e s′
@@ -148,10 +176,12 @@ module _ (s : List ℕ) (m : Removal) (i : ℕ) {e : Event} {s′ : List ℕ} wh
   unfolding worksOn pick
   works-nowork budget z h = rw (eq-eqb _ _ z) (record { handles = h; moves = refl })
 
-  pub works-collects : (budget n : ℕ) {pages : ℕ} → (blockAt s i .configured ≡ 0 → ⊥) → pages ≡ blockAt s i .pages → n ≡ min budget (pages - m .collected)
+  pub works-collects : (budget n : ℕ) {pages collected : ℕ} → (blockAt s i .configured ≡ 0 → ⊥) → pages ≡ blockAt s i .pages → collected ≡ m .collected → n ≡ min budget (pages - collected)
       → HandlesSilently (collects s m i n) 0 e s′ → StepsSilently (worksOn s m i budget) 0 e n s′
   unfolding worksOn pagesMoved pick
-  works-collects budget n d p q h = rw (ne-eqb _ _ d, ← p, ← q) (record { handles = h; moves = refl })
+  works-collects budget n d p c q h =
+      let q′ : n ≡ min budget (blockAt s i .pages - m .collected) = rw (p, c) at q in
+      rw (ne-eqb _ _ d, ← q′) (record { handles = h; moves = refl })
 
 -- The step by what was found.
 module _ (s : List ℕ) (m : Removal) (budget : ℕ) (out : List ℕ) {l : ℕ} {e : Event} {n : ℕ} {s′ out′ : List ℕ} where
@@ -167,10 +197,11 @@ module _ (s : List ℕ) (m : Removal) (budget : ℕ) (out : List ℕ) {l : ℕ} 
   unfolding worksAt
   at-nowhere h = h
 
-  pub step-over : m ≡ removalOf s → (m .cancelled or allSettled m) ≡ true → HandlesStep (moving 0 (ending s m)) out l e n s′ out′ → HandlesStep (working s budget) out l e n s′ out′
+module _ (s : List ℕ) (budget : ℕ) (out : List ℕ) {l : ℕ} {e : Event} {n : ℕ} {s′ out′ : List ℕ} where
+  pub step-over : (removalOf s .cancelled or allSettled (removalOf s)) ≡ true → HandlesStep (moving 0 (ending s (removalOf s))) out l e n s′ out′ → HandlesStep (working s budget) out l e n s′ out′
   unfolding stepOf pick
-  step-over loaded q h = rw (← loaded, q) h
+  step-over q h = rw q h
 
-  pub step-found : m ≡ removalOf s → (m .cancelled or allSettled m) ≡ false → {x : Found} → x ≡ blockNow s m → HandlesStep (worksAt s m budget x) out l e n s′ out′ → HandlesStep (working s budget) out l e n s′ out′
+  pub step-found : (removalOf s .cancelled or allSettled (removalOf s)) ≡ false → {x : Found} → x ≡ blockNow s (removalOf s) → HandlesStep (worksAt s (removalOf s) budget x) out l e n s′ out′ → HandlesStep (working s budget) out l e n s′ out′
   unfolding stepOf pick
-  step-found loaded q {x} f h = rw (← loaded, q, ← f) h
+  step-found q {x} f h = rw (q, ← f) h

@@ -1,27 +1,28 @@
--- The results at a removal's end, what the parts of a work step ask of the state and the removal, and the contract of a part that
+-- The records of the late reply, what the parts of a work step ask of the state and the removal, and the contract of a part that
 -- writes no reply.
 -- Assumes nothing.
 use Prim.Native.Nat.{ℕ, _<_, _≤_}
 use mathlib.Core.Path.{_≡_}
-use mathlib.Core.Bool.{Bool, true}
+use mathlib.Core.Bool.{true}
 use mathlib.Core.List.{List}
 use lib.ListN.{getD}
-use lib.Dec.{eqb, ltb}
-use Rattle.model.specs.Choice.{pick}
 use Rattle.model.specs.declared.Event.{Event}
 use Rattle.model.specs.declared.Removal.{Removal}
-use Rattle.model.specs.Layout.{channelCount, mostBlocks, mostRecords, blockAt}
+use Rattle.model.specs.Layout.{channelCount, mostBlocks, mostRecords, blockAt, cancelledOf, outstandingOf, removalOf}
 use Rattle.model.specs.Search.{BlocksInOrder}
 use Rattle.model.specs.State.{collectedSound, removalRoom, sound}
-use Rattle.model.specs.Memory.{DR-MEM-RES-FAILURE, DR-MEM-RES-CANCELLED}
-use Rattle.model.specs.Work.{WorkStep}
+use Rattle.model.specs.Memory.{resultRecord}
+use Rattle.model.specs.Work.{WorkStep, resultAt}
 use Rattle.model.specs.Handler.{HandlesSilently}
 
--- record i's result by the words of the removal and the code of its end
-abbrev pub resultBy : ℕ → List ℕ → Bool → ℕ → ℕ → ℕ
-resultBy position result cancelled code i =
-    pick (ltb i position) (getD result i 0)
-    (pick cancelled DR-MEM-RES-CANCELLED (pick (eqb i position) code DR-MEM-RES-FAILURE))
+-- record i of the late reply of the removal that the words hold
+abbrev pub lateRecord : List ℕ → ℕ → List ℕ
+lateRecord s i = resultRecord s (getD (removalOf s .address) i 0) (getD (removalOf s .size) i 0) (resultAt s (removalOf s) i)
+
+-- the words hold an outstanding removal
+pub record Held (s : List ℕ) : Type 0 where
+  pub one : outstandingOf s ≡ 1
+  pub flag : cancelledOf s ≤ 1
 
 -- the blocks can be searched, and the records are not too many
 pub record Fits (s : List ℕ) (m : Removal) : Type 0 where
@@ -29,12 +30,13 @@ pub record Fits (s : List ℕ) (m : Removal) : Type 0 where
   pub records : m .count ≤ mostRecords
 
 -- a sound removal that is not over
-pub record CanWork (s : List ℕ) (m : Removal) : Type 0 where
+pub record CanWork (s : List ℕ) : Type 0 where
   pub isSound : sound s ≡ true
-  pub channel : m .channel < channelCount
-  pub fits : Fits s m
-  pub more : m .position < m .count
-  pub room : collectedSound (m .collected) (removalRoom s m) ≡ true
+  pub held : Held s
+  pub channel : removalOf s .channel < channelCount
+  pub fits : Fits s (removalOf s)
+  pub more : removalOf s .position < removalOf s .count
+  pub room : collectedSound (removalOf s .collected) (removalRoom s (removalOf s)) ≡ true
 
 -- pages of the block remain
 pub record GoesOn (s : List ℕ) (m : Removal) (block : ℕ) : Type 0 where

@@ -1,20 +1,17 @@
 -- The form of a request, from its tests.
 -- Assumes nothing.
-use mathlib.Core.Path.{_≡_, refl, sym, ap, _∙_}
+use mathlib.Core.Path.{_≡_, refl, sym, _∙_}
 use mathlib.Core.Bool.{Bool, true, false}
-use mathlib.Core.List.{List, _++_}
-use Prim.Native.Nat.{ℕ, zero, suc, _+_, _-_, _*_, _≤_, _<_}
-use native.Mathlib.Omega.{arith}
-use lib.ListN.{length, take, drop, replicate, length-drop, getD-replicate, take-append-drop, List·getD-eq-default}
-use lib.Seq.{getD-drop, ext-getD}
-use Rattle.wire.specs.BigEndian.{byteAt, numberAt}
+use mathlib.Core.List.{List}
+use Prim.Native.Nat.{ℕ, _+_, _*_, _≤_, _<_}
+use lib.ListN.{length}
 use lib.Dec.{eqb}
 use borrow.Author.Tests.{ne-eqb, le-leb, leb-true, eqb-true, le-ltb, lt-ltb}
-use Rattle.model.specs.Choice.{pick, _and_, tabulate}
+use Rattle.model.specs.Choice.{pick, _and_}
 use Rattle.model.specs.declared.Request.{Request}
 use Rattle.model.specs.declared.Request.the-variants.{Configure, Unconfigure, Query, Status, Cancel, Malformed}
 use Rattle.model.specs.Memory.{requestType, argumentOf, hasRecords, hasNothing, requestOf, DR-MEM-CONFIGURE, DR-MEM-QUERY, DR-MEM-UNCONF-CANCEL, DR-MEM-UNCONF-STATUS, DR-MEM-UNCONFIGURE}
-use Rattle.model.proofs.Choice.{both, and-false, and-false-right, tabulate-at, tabulate-length}
+use Rattle.model.proofs.Choice.{both, and-false, and-false-right}
 use Rattle.model.specs.Layout.{memoryHeaderBytes, mostRecords, pairBytes}
 
 -- the numbers of a request with records
@@ -99,24 +96,3 @@ module _ (b : List ℕ) (long : memoryHeaderBytes ≤ length b) (type : ℕ) (e 
 pub short-is : (b : List ℕ) → length b < memoryHeaderBytes → Malformed ≡ requestOf b
 unfolding requestOf pick
 short-is b h = rw (lt-ltb _ _ h)
-
--- past the end of a request its numbers are 0
-pub number-past : (b : List ℕ) (at k : ℕ) → length b ≤ at → numberAt b at k ≡ 0
-unfolding numberAt byteAt
-number-past b at zero h = refl
-number-past b at (suc k) h = rw (number-past b at k h, List·getD-eq-default b 0 {n = at + k} (omega arith))
-
--- n values over an array of zeros are all the values, where the others are 0
-pub fill-short : (f : ℕ → ℕ) (n : ℕ) → ((i : ℕ) → n ≤ i → f i ≡ 0) → take n (tabulate f mostRecords) ++ drop n (replicate mostRecords 0) ≡ tabulate f mostRecords
-fill-short f n z =
-    ap (λ (t : List ℕ). take n (tabulate f mostRecords) ++ t)
-    (ext-getD 0 (drop n (replicate mostRecords 0)) (drop n (tabulate f mostRecords))
-    (length-drop {A = ℕ} n (replicate mostRecords 0) ∙ sym (length-drop n (tabulate f mostRecords) ∙ ap (λ (k : ℕ). k - n) (tabulate-length f mostRecords)))
-    (λ i h.
-    let below : n + i < mostRecords = omega (arith, length-drop {A = ℕ} n (replicate mostRecords 0)) in
-    getD-drop n (replicate mostRecords 0) i 0
-    ∙ getD-replicate {A = ℕ} mostRecords (n + i) 0 0 below
-    ∙ sym (z (n + i) (omega arith))
-    ∙ sym (tabulate-at f mostRecords (n + i) 0 below)
-    ∙ sym (getD-drop n (tabulate f mostRecords) i 0)))
-    ∙ take-append-drop n (tabulate f mostRecords)

@@ -9,12 +9,10 @@ use model::MOST_RECORDS;
 use model::PAIR_BYTES;
 use model::Request;
 ghost use mathlib.Core.Path.{_≡_};
-ghost use Prim.Native.Nat.{_+_, _*_, _≤_, _<_};
+ghost use Prim.Native.Nat.{_+_, _*_, _≤_};
 ghost use lib.ListN.{length};
-ghost use Rattle.wire.specs.BigEndian.{numberAt};
-ghost use Rattle.model.specs.Choice.{tabulate};
 ghost use Rattle.model.specs.Memory.{DR-MEM-UNCONF-STATUS, DR-MEM-UNCONF-CANCEL, requestNumber, addrIn, sizeIn, hasRecords, hasNothing, requestOf, rightForm};
-ghost use Rattle.model.specs.Layout.{memoryHeaderBytes, pairBytes, mostRecords};
+ghost use Rattle.model.specs.Layout.{memoryHeaderBytes, pairBytes};
 
 // The address of record `i`.
 pub fn address(b: &[u8], i: usize) -> u64
@@ -124,34 +122,4 @@ pub fn number(b: &[u8]) -> u64
         return 0;
     }
     wire::get64(b, 8)
-}
-
-// The 64-bit number at the same place of each of the `n` records of a request, `at` in the first one, and 0 after them.
-fn column(b: &[u8], at: usize, n: usize) -> [u64; MOST_RECORDS]
-    requires { ⌜ (n ≤ mostRecords) × (length (now b) ≡ memoryHeaderBytes + n * pairBytes) × (memoryHeaderBytes ≤ at) × (at + 8 ≤ memoryHeaderBytes + pairBytes) ⌝ }
-    ensures { λ r. ⌜ r ≡ tabulate (λ i. numberAt (now (b .entry)) (at + i * pairBytes) 8) mostRecords ⌝ }
-{
-    let mut out = [0u64; MOST_RECORDS];
-    let mut i: usize = 0;
-    while i < n {
-        out[i] = wire::get64(b, at + i * PAIR_BYTES);
-        i += 1;
-    }
-    out
-}
-
-// The addresses of the `n` records of a request, and 0 after them.
-pub fn addresses(b: &[u8], n: usize) -> [u64; MOST_RECORDS]
-    requires { ⌜ (n ≤ mostRecords) × (length (now b) ≡ memoryHeaderBytes + n * pairBytes) ⌝ }
-    ensures { λ r. ⌜ r ≡ tabulate (λ i. addrIn (now (b .entry)) i) mostRecords ⌝ }
-{
-    column(b, MEMORY_HEADER_BYTES, n)
-}
-
-// Their sizes.
-pub fn sizes(b: &[u8], n: usize) -> [u64; MOST_RECORDS]
-    requires { ⌜ (n ≤ mostRecords) × (length (now b) ≡ memoryHeaderBytes + n * pairBytes) ⌝ }
-    ensures { λ r. ⌜ r ≡ tabulate (λ i. sizeIn (now (b .entry)) i) mostRecords ⌝ }
-{
-    column(b, MEMORY_HEADER_BYTES + 8, n)
 }

@@ -1,15 +1,15 @@
 -- Loops that copy a run of elements into a list, or out of one.
 -- Assumes nothing.
 use mathlib.Core.Path.{_≡_, sym, ap, _∙_, subst}
-use mathlib.Core.List.{List, [], _∷_, _++_, append-nil}
+use mathlib.Core.List.{List, [], _∷_, _++_}
 use Prim.Native.Nat.{ℕ, suc, _+_, _<_, _≤_}
 use native.Mathlib.Nat.{add-zero, add-suc, suc-add, le-of-lt}
 use native.Mathlib.Numerals.{add-one}
-use lib.ListN.{length, getD, set, take, drop, replicate, drop-of-length-le, length-replicate, getD-replicate}
+use lib.ListN.{length, getD, set, take, drop, replicate, length-replicate, getD-replicate}
 use lib.Seq.{sets, take-suc, length-take-le, drop-cons, set-at, append-snoc, take-all}
 
 module _ {A : Type 0} where
-  -- a list l whose first i elements are v's: one more, and all
+  -- a list l whose first i elements are v's: one more
   pub fill-more : (l v : List A) (i : ℕ) (d : A) → i < length l → i < length v → set (take i v ++ drop i l) i (getD v i d) ≡ take (i + 1) v ++ drop (i + 1) l
   fill-more l v i d hl hv =
       ap (λ (t : List A). set (take i v ++ t) i (getD v i d)) (drop-cons l i d hl)
@@ -17,10 +17,6 @@ module _ {A : Type 0} where
       ∙ sym (append-snoc (take i v) (getD v i d) (drop (suc i) l))
       ∙ ap (λ (t : List A). t ++ drop (suc i) l) (sym (take-suc v i d hv))
       ∙ ap (λ (n : ℕ). take n v ++ drop n l) (sym (add-one i))
-
-  pub fill-done : (l v : List A) (i : ℕ) → length l ≤ i → length v ≤ i → take i v ++ drop i l ≡ v
-  fill-done l v i hl hv =
-      ap (λ (t : List A). take i v ++ t) (drop-of-length-le l hl) ∙ append-nil (take i v) ∙ take-all i v hv
 
   -- a run of stores after a run is one run
   sets-append : (l a b : List A) (i : ℕ) → sets (sets l i a) (i + length a) b ≡ sets l i (a ++ b)

@@ -1,14 +1,18 @@
 //! A host that is given the calls of the list too, for what the output alone
 //! does not tell.
 
+use super::blocks::{self, Empty};
 use super::devices::{lists, requests::Requests};
 use super::numbers::{Before, Numbers};
 use super::orders;
 use super::peers::lists as id_lists;
 use super::peers::requests::Ended;
+use crate::block::Pair;
 use crate::entry::{KIND, SERVICE};
 use crate::lines::{Call, Host};
 use crate::peer::Ids;
+use crate::wire::get64;
+use crate::{setup, state::JOURNAL_WORDS};
 
 #[derive(Default)]
 pub struct Replay {
@@ -18,6 +22,8 @@ pub struct Replay {
     numbers: Numbers,
     requests: Requests,
     ended: Ended,
+    /// Why the state is the empty one, where it is.
+    empty: Empty,
 }
 
 impl Replay {
@@ -31,22 +37,27 @@ impl Replay {
         !self.host.ids.is_empty()
     }
 
+    /// Whether a record's pair names a block from 16 on. The blocks are those
+    /// of the state, which no call but setup moves.
+    pub fn is_later_block(&self, record: &[u8]) -> bool {
+        let (addr, size) = (get64(record, 0), get64(record, 8));
+        let named = self.host.state.blocks.find(Pair { addr, size });
+        named.is_some_and(|block| block >= blocks::MORE)
+    }
+
     /// Performs a call; gives the names of what its numbers, its devices,
     /// orders and peers met.
     pub fn call(&mut self, call: &Call) -> Vec<String> {
         let before = Before::of(&self.host.state);
         let last = self.host.state.last;
         let mut names = match call {
-            Call::Setup(blocks) => {
-                let Host { devices, ids, .. } = &self.host;
-                let mut names = id_lists::names(blocks, devices, ids);
-                if Ids::from_words(ids).is_some() {
-                    names.extend(lists::names(blocks, devices));
-                }
-                names
-            }
+            Call::Setup(words) => self.lists(words),
             _ => Vec::new(),
         };
+        let searched = blocks::searches(&self.host.state, call);
+        if last == 0 {
+            names.extend(self.empty.name(call));
+        }
         let peers = self.host.state.peers;
         let of_peers = self.ended.names(&self.host.state, call);
         if let Call::Show(..) = call {
@@ -56,9 +67,13 @@ impl Replay {
         names.extend(orders::shown(&self.host.state, call));
         let of_orders = orders::names(&self.host.state, call);
         let touched = orders::touches(&self.host.state, call);
+        let many = blocks::has_many(&self.host.state);
         self.answer.clear();
         self.host.perform(call, &mut self.answer);
-        if self.host.state.last > last {
+        let state = &self.host.state;
+        names.extend(blocks::silent_end(many, call, state, &self.answer));
+        if state.last > last {
+            names.extend(searched);
             names.extend(of_orders);
             names.extend(of_peers);
             self.ended.note(&peers, &self.host.state.peers);
@@ -70,6 +85,10 @@ impl Replay {
         }
         match *call {
             Call::Setup(_) => {
+                self.empty = match self.answer.strip_prefix(b"setup refused ") {
+                    Some([digit, ..]) => Empty::Refused((digit - b'0').into()),
+                    _ => Empty::default(),
+                };
                 self.numbers = Numbers::default();
                 self.ended = Ended::default();
             }
@@ -78,6 +97,23 @@ impl Replay {
             }
             _ => {}
         }
+        names
+    }
+
+    /// The names of what the lists of a setup meet. Without a journal none of
+    /// them is looked at.
+    fn lists(&self, words: &[u64]) -> Vec<String> {
+        let Host { devices, ids, .. } = &self.host;
+        if !self.host.lends_journal() {
+            let good = setup(words, devices, ids, &mut [0; JOURNAL_WORDS]).is_ok();
+            let name = if good { "with good lists" } else { "before 7" };
+            return vec![format!("setup refused 1 {name}")];
+        }
+        let mut names = id_lists::names(words, devices, ids);
+        if Ids::from_words(ids).is_some() {
+            names.extend(lists::names(words, devices));
+        }
+        names.push(blocks::list_name(words));
         names
     }
 

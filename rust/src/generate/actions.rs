@@ -6,19 +6,20 @@ use super::random::Random;
 use super::Generator;
 use crate::block::PAGE;
 use crate::lines::Call;
-use crate::removal::MAX_BUDGET;
-use crate::state::{Service, State, SERVICES};
+use crate::removal::{Removal, MAX_BUDGET};
+use crate::state::{Service, State, SERVICES, SLOTS};
 use crate::{build, memory, wire};
 
 /// An action, its weight, and whether it tends to undo what was built up.
 type Action = (fn(&mut Generator), u64, bool);
 
-pub(super) const ACTIONS: [Action; 33] = [
+pub(super) const ACTIONS: [Action; 34] = [
     (Generator::prepare, 30, false),
     (Generator::prepare_memory, 20, false),
     (Generator::good_memory, 30, false),
     (Generator::bad_memory, 6, false),
     (Generator::removal, 60, false),
+    (Generator::long_removal, 4, false),
     (Generator::device, 30, false),
     (Generator::damaged_device, 8, false),
     (Generator::odd_device_line, 1, false),
@@ -155,6 +156,13 @@ impl Generator {
                 memory::UNCONFIGURE
             });
         }
+        let many = self
+            .state()
+            .removal
+            .is_some_and(|removal| removal.count > 16);
+        if many && self.random.once_in(2) {
+            return self.work_on();
+        }
         match self.random.weighted(&[75, 6, 5, 5, 4, 2, 3]) {
             0 => {
                 let budget = self.budget();
@@ -166,6 +174,53 @@ impl Generator {
             4 => self.request(memory::UNCONFIGURE),
             5 => self.request(memory::QUERY),
             _ => self.disturb(),
+        }
+    }
+
+    /// Begins a removal of 17 to 64 records and does its first steps.
+    fn long_removal(&mut self) {
+        if self.state().removal.is_none() {
+            self.send_memory(messages::long_removal);
+        }
+        self.work_on();
+    }
+
+    /// Many steps of a removal of many records; a full journal is drained.
+    fn work_on(&mut self) {
+        for _ in 0..self.random.between(8, 70) {
+            let Some(removal) = self.state().removal else {
+                return;
+            };
+            if self.calls >= self.stop {
+                return;
+            }
+            if removal.position == removal.count && self.random.once_in(2) {
+                self.request(memory::UNCONF_STATUS);
+            }
+            if self.state().held == SLOTS {
+                let words = self.random.pick(&[64, 128, 256]);
+                self.call(Call::Drain(words));
+            }
+            let budget = match self.random.once_in(4) {
+                true => self.budget(),
+                false => MAX_BUDGET,
+            };
+            self.call(Call::Work(budget));
+        }
+        self.look_in();
+    }
+
+    /// Asks for a removal that is far on, and cancels some of them.
+    fn look_in(&mut self) {
+        let later = |removal: &Removal| removal.count > 16 && removal.position > 16;
+        if !self.state().removal.as_ref().is_some_and(later) {
+            return;
+        }
+        if self.random.once_in(3) {
+            self.request(memory::CANCEL);
+        }
+        if self.random.once_in(2) {
+            self.request(memory::UNCONF_STATUS);
         }
     }
 

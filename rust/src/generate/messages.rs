@@ -213,9 +213,16 @@ fn pairs(random: &mut Random, state: &State, count: u64) -> Vec<Pair> {
 }
 
 /// Repeats some pairs of a list: next to the first, further on, or after an
-/// unknown pair, at which CONFIGURE and a removal fail. At most 16 stay.
+/// unknown pair, at which CONFIGURE and a removal fail. At most 64 stay.
 fn repeat(random: &mut Random, list: &mut Vec<Pair>) {
-    for _ in 0..random.pick(&[1, 1, 2, 4]) {
+    let times = if list.len() > 16 {
+        [4, 8, 12, 16]
+    } else {
+        [1, 1, 2, 4]
+    };
+    for _ in 0..random.pick(&times) {
+        // Room for what is put in.
+        list.truncate(MAX_RECORDS - 2);
         let at = random.below(list.len() as u64);
         let place = match random.weighted(&[40, 40, 20]) {
             0 => at + 1,
@@ -235,22 +242,25 @@ fn named(random: &mut Random, state: &State, fits: fn(&Block) -> bool) -> Vec<Pa
     let blocks = state.blocks.listed().iter();
     let mut list: Vec<Pair> = blocks.filter(|block| fits(block)).map(pair_of).collect();
     random.shuffle(&mut list);
-    list.truncate(random.pick(&[1, 1, 2, 3, 4, 8, 16, 16]));
+    let more = random.between(17, 63);
+    list.truncate(random.pick(&[1, 1, 2, 3, 4, 8, 16, more as usize, 64, 64]));
     list
 }
 
 fn record_count(random: &mut Random) -> u64 {
-    match random.weighted(&[30, 20, 15, 20, 5, 10]) {
+    match random.weighted(&[30, 20, 15, 18, 3, 4, 6, 4]) {
         0 => 1,
         1 => 2,
         2 => 3,
         3 => random.between(4, 14),
         4 => 15,
-        _ => 16,
+        5 => 16,
+        6 => random.between(17, 63),
+        _ => 64,
     }
 }
 
-/// The pairs of a request of right form, 1 to 16, a third of the lists with repeats.
+/// The pairs of a request of right form, 1 to 64, a third of the lists with repeats.
 fn good_pairs(random: &mut Random, state: &State, memory_type: u32) -> Vec<Pair> {
     let plain: fn(&Block) -> bool = match memory_type {
         memory::CONFIGURE => |block| !block.configured,
@@ -322,6 +332,37 @@ pub fn request(random: &mut Random, state: &State, channel: u64, memory_type: u3
     build::request(memory_type, number, &pairs)
 }
 
+/// An UNCONFIGURE of 17 to 64 records for `channel`: blocks without permanent
+/// pages, configured or not, many of them again and again, and half of the time
+/// a record after the sixteenth at which the removal fails.
+pub fn long_removal(random: &mut Random, state: &State, channel: u64) -> Vec<u8> {
+    let any = random.between(17, 64);
+    let count = random.pick(&[17, any, any, 64]) as usize;
+    let blocks = state.blocks.listed();
+    let free = blocks.iter().filter(|block| block.permanent == 0);
+    let mut list: Vec<Pair> = free.map(pair_of).collect();
+    random.shuffle(&mut list);
+    list.truncate(count);
+    if list.is_empty() {
+        list.push(unknown(random));
+    }
+    while list.len() < count {
+        let again = random.pick(&list);
+        let place = random.up_to(list.len() as u64) as usize;
+        list.insert(place, again);
+    }
+    let failing = blocks.iter().filter(|block| block.permanent > 0);
+    let failing: Vec<Pair> = failing.map(pair_of).collect();
+    let place = random.between(16, count as u64 - 1) as usize;
+    match (random.below(4), random.pick_any(&failing)) {
+        (0, Some(permanent)) => list[place] = permanent,
+        (1, _) => list[place] = unknown(random),
+        _ => {}
+    }
+    let number = request_number(random, state, channel);
+    build::request(memory::UNCONFIGURE, number, &list)
+}
+
 const REQUESTS: [u32; 5] = [
     memory::CONFIGURE,
     memory::UNCONFIGURE,
@@ -347,7 +388,7 @@ pub fn bad_memory(random: &mut Random, state: &State, channel: u64) -> Vec<u8> {
         argument.wrapping_sub(1),
         0,
         1,
-        17,
+        65,
         argument | 0x1_0000,
         argument << 24,
     ];
@@ -365,7 +406,7 @@ pub fn bad_memory(random: &mut Random, state: &State, channel: u64) -> Vec<u8> {
             message[..4].copy_from_slice(&other.to_be_bytes());
         }
         5 => {
-            let count = random.pick(&[0, 17, 17, 18]);
+            let count = random.pick(&[0, 65, 65, 66]);
             let list = pairs(random, state, count);
             let number = request_number(random, state, channel);
             message = build::request(memory_type, number, &list);

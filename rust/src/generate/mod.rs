@@ -35,6 +35,7 @@ pub fn write_list(usage: &str, make: fn(u64, u64) -> Vec<u8>) -> io::Result<Exit
 /// A text of `calls` calls from a seed.
 pub fn generate(seed: u64, calls: u64) -> Vec<u8> {
     let mut generator = Generator::new(seed, calls);
+    generator.before_setup();
     while generator.calls < generator.stop {
         generator.list();
     }
@@ -172,12 +173,16 @@ impl Generator {
     /// One list: a setup, its calls, and nearly always a last drain.
     fn list(&mut self) {
         self.mixture = Mixture::pick(&mut self.random);
-        while self.random.once_in(2) {
+        while !self.random.once_in(3) {
             self.refused_setup();
         }
+        if self.random.once_in(3) {
+            self.setup_without_journal();
+        }
         if self.random.once_in(10) {
-            // Setup is lent neither journal nor output, and leaves their sizes.
-            self.odd_sizes();
+            // Setup is lent no output, and leaves its size.
+            self.odd_output();
+            self.odd_sizes_left = self.random.between(1, 5);
         }
         let words = setups::good(&mut self.random);
         let devices = devices::good(&mut self.random);
@@ -206,11 +211,44 @@ impl Generator {
         let devices = if bad[1] { devices::bad } else { devices::good }(random);
         let ids = if bad[2] { peers::bad } else { peers::good }(random);
         self.set_up(blocks, devices, ids);
-        self.show_state();
-        for _ in 0..self.random.pick(&[0, 0, 1, 3, 10]) {
-            self.step();
-        }
+        self.on_empty_state();
         self.empty_journal();
+    }
+
+    /// A setup that is lent a journal of another length, with good lists or
+    /// bad ones, and some calls on the empty state.
+    fn setup_without_journal(&mut self) {
+        self.odd_journal();
+        let random = &mut self.random;
+        let bad = random.once_in(3);
+        let blocks = if bad { setups::bad } else { setups::good }(random);
+        let devices = devices::good(random);
+        let ids = peers::good(random);
+        self.set_up(blocks, devices, ids);
+        self.on_empty_state();
+        self.usual_sizes();
+        if self.random.once_in(2) {
+            self.each_call();
+        }
+    }
+
+    /// The state, which is the empty one, and some calls on it.
+    fn on_empty_state(&mut self) {
+        self.show_state();
+        for _ in 0..self.random.pick(&[0, 0, 1, 3, 6]) {
+            match self.random.once_in(2) {
+                true => self.each_call(),
+                false => self.step(),
+            }
+        }
+    }
+
+    /// Each call before there is a setup.
+    fn before_setup(&mut self) {
+        self.call(Call::State);
+        for _ in 0..120.min(self.stop / 20) {
+            self.each_call();
+        }
     }
 
     /// One action, with what may come before and after it.
@@ -263,12 +301,20 @@ impl Generator {
     fn odd_sizes(&mut self) {
         self.odd_sizes_left = self.random.between(1, 5);
         if self.random.once_in(2) {
-            let words = [0, 1, 64, 126, 127, 127, 129, 129, 200];
-            let words = self.random.pick(&words);
-            self.call(Call::Journal(words));
+            self.odd_journal();
         }
+        self.odd_output();
+    }
+
+    fn odd_journal(&mut self) {
+        let words = [0, 1, 64, 126, 127, 127, 129, 129, 200];
+        let words = self.random.pick(&words);
+        self.call(Call::Journal(words));
+    }
+
+    fn odd_output(&mut self) {
         if self.random.once_in(2) {
-            let bytes = [0, 1, 60, 600, 671, 671, 671, 672, 673, 4_096];
+            let bytes = [0, 1, 671, 672, 2_591, 2_591, 2_591, 2_592, 2_593, 4_096];
             let bytes = self.random.pick(&bytes);
             self.call(Call::Output(bytes));
         }

@@ -1,7 +1,7 @@
 //! Block lists: good ones of many shapes, and ones that break a single rule.
 
 use super::random::Random;
-use crate::block::{BLOCK_WORDS, MAX_END, MAX_PAGES, PAGE};
+use crate::block::{BLOCK_WORDS, MAX_BLOCKS, MAX_END, MAX_PAGES, PAGE};
 
 /// Five words a block, by name.
 #[derive(Clone, Copy)]
@@ -29,9 +29,15 @@ fn words(drafts: &[Draft]) -> Vec<u64> {
     drafts.iter().flat_map(Draft::words).collect()
 }
 
+/// The sizes of blocks: in long lists mostly small, so that a removal of many
+/// of them ends within a list of calls.
+const SIZES: [u64; 6] = [25, 35, 15, 10, 8, 7];
+const SIZES_OF_MANY: [u64; 6] = [55, 36, 5, 2, 1, 1];
+
 /// A block of random size with random permanent pages; base 0.
-fn draft(random: &mut Random) -> Draft {
-    let pages = match random.weighted(&[25, 35, 15, 10, 8, 7]) {
+fn draft(random: &mut Random, many: bool) -> Draft {
+    let sizes = if many { &SIZES_OF_MANY } else { &SIZES };
+    let pages = match random.weighted(sizes) {
         0 => random.between(1, 3),
         1 => random.between(4, 12),
         2 => random.between(13, 200),
@@ -47,7 +53,7 @@ fn draft(random: &mut Random) -> Draft {
         permanent: 0,
         configured,
     };
-    if configured == 1 && random.once_in(4) {
+    if configured == 1 && random.once_in(if many { 12 } else { 4 }) {
         draft.first = if random.once_in(3) {
             0
         } else {
@@ -65,7 +71,7 @@ fn draft(random: &mut Random) -> Draft {
 
 /// A good list of `count` blocks: gaps or none, low, high or at 2^63.
 fn drafts(random: &mut Random, count: u64) -> Vec<Draft> {
-    let mut list: Vec<Draft> = (0..count).map(|_| draft(random)).collect();
+    let mut list: Vec<Draft> = (0..count).map(|_| draft(random, count > 16)).collect();
     let adjacent = random.once_in(3);
     let mut end = random.pick(&[0, PAGE, 0x1000_0000, 0xffff_e000, 1 << 40]);
     for draft in &mut list {
@@ -87,19 +93,30 @@ fn drafts(random: &mut Random, count: u64) -> Vec<Draft> {
 
 /// A list that setup accepts.
 pub fn good(random: &mut Random) -> Vec<u64> {
-    let count = match random.weighted(&[4, 16, 45, 20, 15]) {
+    let count = match random.weighted(&[4, 12, 36, 16, 8, 16, 8]) {
         0 => 0,
         1 => 1,
         2 => random.between(2, 6),
         3 => random.between(7, 15),
-        _ => 16,
+        4 => 16,
+        5 => random.between(17, 63),
+        _ => 64,
     };
+    words(&drafts(random, count))
+}
+
+/// A list of 17 to 64 blocks that setup accepts.
+pub fn good_of_more(random: &mut Random) -> Vec<u64> {
+    let any = random.between(17, 64);
+    let count = random.pick(&[17, any, any, 64]);
     words(&drafts(random, count))
 }
 
 /// A list that breaks a single rule at a random block, or is no whole list.
 pub fn bad(random: &mut Random) -> Vec<u64> {
-    let count = random.between(1, 16);
+    let any = random.between(1, 16);
+    let more = random.between(17, MAX_BLOCKS as u64);
+    let count = random.pick(&[any, any, more]);
     let mut list = drafts(random, count);
     let at = match random.once_in(2) {
         true => list.len() - 1,
@@ -112,7 +129,7 @@ pub fn bad(random: &mut Random) -> Vec<u64> {
             return cut;
         }
         1 => {
-            let count = random.pick(&[17, 17, 18, 40]);
+            let count = random.pick(&[65, 65, 66, 100]);
             return words(&drafts(random, count));
         }
         _ => break_rule(random, &mut list, at),

@@ -3,9 +3,9 @@
 use super::damage::Damage;
 use super::File;
 use crate::block::Blocks;
-use crate::entry::{CHANNEL, COUNT, KIND, SERVICE};
+use crate::entry::{CHANNEL, COUNT, EDITION, KIND, SERVICE};
 use crate::reader::fields::{named, KINDS};
-use crate::reader::{output, Reading, Verdict, ENTRY, WORD};
+use crate::reader::{output, Edition, Reading, Verdict, ENTRY, WORD};
 use crate::state::{SERVICES, TOP_BIT};
 use crate::wire::get64;
 use std::collections::BTreeMap;
@@ -28,8 +28,18 @@ const GROWN: [&str; 3] = [
     "begun anew after a record settled",
 ];
 
-/// Data refused under a registered handle without its top bit.
-const BARE: &str = "good kind  9 of a registered handle without its top bit";
+/// Data refused under a handle that is registered but for its top bit.
+const BARE: &str = "kind  9 of a registered handle but for its top bit";
+
+/// What only a new journal can say.
+const MORE: [&str; 6] = [
+    "file of 17 to 63 blocks",
+    "file of 64 blocks",
+    "kind 11 of a block from 16 on",
+    "kind 12 of 17 to 64 records",
+    "kind 15 of a block from 16 on",
+    "kind 15 of a record from 16 on",
+];
 
 /// Whether an entry is of `BARE`, after the reading before it.
 fn is_bare(before: &Reading, first: u64, second: u64) -> bool {
@@ -48,7 +58,7 @@ struct RemovalSteps {
 
 impl RemovalSteps {
     /// The name of what an entry does, if it is one of `GROWN`.
-    fn entry(&mut self, first: u64, second: u64, blocks: &Blocks) -> Option<&'static str> {
+    fn entry(&mut self, first: u64, second: u64, reading: &Reading) -> Option<&'static str> {
         let count = COUNT.of(first);
         match KIND.of(first) {
             12 => {
@@ -65,7 +75,8 @@ impl RemovalSteps {
             15 => {
                 let before = std::mem::take(self);
                 self.settled = true;
-                let pages = blocks.list[second as usize].pages;
+                let (_, block) = reading.edition.settled(first, second);
+                let pages = reading.blocks.list[block as usize].pages;
                 return (before.returned + count > pages).then_some(GROWN[0]);
             }
             16 => *self = RemovalSteps::default(),
@@ -82,25 +93,51 @@ pub struct Counts {
     damaged: u64,
 }
 
+/// What good files of an edition must reach.
+fn good_names(edition: Edition) -> Vec<String> {
+    let mark = |kind: usize| edition == Edition::New && kind as u64 == EDITION;
+    let kinds = (0..KINDS).filter(|kind| named(edition, *kind).is_some() || mark(*kind));
+    let mut names: Vec<String> = kinds.map(|kind| format!("kind {kind:2}")).collect();
+    names.extend(GROWN.map(String::from));
+    names.extend((0..SERVICES).map(|service| format!("kind 10 of service {service}")));
+    names.extend([BARE, "file", "file of 16 blocks"].map(String::from));
+    match edition {
+        Edition::Old => names.push("file of no entries".into()),
+        Edition::New => names.extend(MORE.map(String::from)),
+    }
+    let names = names.iter();
+    names.map(|name| format!("good {edition} {name}")).collect()
+}
+
 impl Default for Counts {
     fn default() -> Counts {
         let bad = Damage::all().into_iter().map(|damage| damage.to_string());
-        let kinds = (0..KINDS).filter(|kind| named(*kind).is_some());
-        let kinds = kinds.map(|kind| format!("good kind {kind:2}"));
-        let shown = SHOWN.iter().map(|line| format!("shown {line}"));
-        let grown = GROWN.iter().map(|name| format!("good {name}"));
-        let names = bad.map(|name| format!("bad {name}"));
-        let names = names.chain(kinds).chain(shown).chain(grown);
-        let answered = (0..SERVICES).map(|service| format!("good kind 10 of service {service}"));
-        let names = names.chain(answered);
-        let names = names.chain([BARE.into()]);
-        let names = names.chain(["good file".into(), "good file of no entries".into()]);
+        let bad = bad.map(|name| format!("bad {name}"));
+        let good = Edition::ALL.into_iter().flat_map(good_names);
+        let shown = Edition::ALL.into_iter().flat_map(|edition| {
+            let lines = SHOWN.iter();
+            lines.map(move |line| format!("shown {edition} {line}"))
+        });
+        let names = bad.chain(good).chain(shown);
         Counts {
             listed: names.map(|name| (name, 0)).collect(),
             files: 0,
             damaged: 0,
         }
     }
+}
+
+/// What an entry says that only a new journal can, by its place in `MORE`.
+fn more(edition: Edition, first: u64, second: u64) -> Vec<&'static str> {
+    let (record, block) = edition.settled(first, second);
+    let tests = match KIND.of(first) {
+        11 => [(second >> 16 != 0, MORE[2]), (false, "")],
+        12 => [((17..=64).contains(&COUNT.of(first)), MORE[3]), (false, "")],
+        15 => [(block > 15, MORE[4]), (record > 15, MORE[5])],
+        _ => return Vec::new(),
+    };
+    let met = tests.iter().filter(|(met, _)| *met);
+    met.map(|(_, name)| *name).collect()
 }
 
 /// The whole entries of a file whose block list is good.
@@ -122,42 +159,52 @@ impl Counts {
             Ok(reading) => reading,
             Err(bad) => return self.add(format!("bad {}", Damage::of(bad))),
         };
-        self.bare(&file.bytes);
+        let edition = reading.edition;
+        self.bare(&file.bytes, edition);
         let entries = entries_of(&file.bytes);
-        self.add("good file".into());
+        self.add(format!("good {edition} file"));
         if entries.len() == 0 {
-            self.add("good file of no entries".into());
+            self.add(format!("good {edition} file of no entries"));
         }
+        let blocks = match reading.blocks.count {
+            ..=15 => "up to 15",
+            16 => "16",
+            17..=63 => "17 to 63",
+            _ => "64",
+        };
+        self.add(format!("good {edition} file of {blocks} blocks"));
         let mut removal = RemovalSteps::default();
         for entry in entries {
             let (first, second) = (get64(entry, 0), get64(entry, WORD));
-            self.add(format!("good kind {:2}", KIND.of(first)));
+            self.add(format!("good {edition} kind {:2}", KIND.of(first)));
             if KIND.of(first) == 10 {
-                self.add(format!("good kind 10 of service {}", SERVICE.of(first)));
+                let service = SERVICE.of(first);
+                self.add(format!("good {edition} kind 10 of service {service}"));
             }
-            if let Some(name) = removal.entry(first, second, &reading.blocks) {
-                self.add(format!("good {name}"));
+            let said = removal.entry(first, second, reading);
+            for name in said.into_iter().chain(more(edition, first, second)) {
+                self.add(format!("good {edition} {name}"));
             }
         }
         for line in String::from_utf8_lossy(&output(verdict)).lines() {
             let mut words = line.split(' ');
             if let (Some(what), Some(_), Some(how)) = (words.next(), words.next(), words.next()) {
-                self.add(format!("shown {what} {how}"));
+                self.add(format!("shown {edition} {what} {how}"));
             }
         }
     }
 
     /// Counts the entries of `BARE` in a good file.
-    fn bare(&mut self, file: &[u8]) {
+    fn bare(&mut self, file: &[u8], edition: Edition) {
         let start = WORD + get64(file, 0) as usize * WORD;
         let words = file[WORD..start].chunks_exact(WORD);
         let words: Vec<u64> = words.map(|word| get64(word, 0)).collect();
         let blocks = Blocks::from_words(&words).expect("a good file");
-        let mut reading = Reading::new(blocks);
+        let mut reading = Reading::new(blocks, edition);
         for entry in entries_of(file) {
             let (first, second) = (get64(entry, 0), get64(entry, WORD));
             if is_bare(&reading, first, second) {
-                self.add(BARE.into());
+                self.add(format!("good {edition} {BARE}"));
             }
             reading.entry([first, second]).expect("a good file");
         }

@@ -3,18 +3,18 @@
 use super::entries::entry;
 use super::list::{kind_of, verdict, Saved};
 use crate::block::{BLOCK_WORDS, MAX_BLOCKS};
-use crate::entry::{KIND, NUMBER};
+use crate::entry::{EDITION, KIND, NUMBER};
 use crate::generate::random::Random;
 use crate::generate::setups;
-use crate::reader::fields::{named, names, Field, KINDS};
-use crate::reader::{Bad, Fault, ListFault, Need, ENTRY, WORD};
+use crate::reader::fields::{named, unnamed, Field, KINDS};
+use crate::reader::{Bad, Beginning, Edition, Fault, ListFault, Need, ENTRY, WORD};
 use std::fmt::{self, Display, Formatter};
 
 /// What is bad in a file, wherever it stands.
 #[derive(Clone, Copy, Debug, PartialEq, Eq, PartialOrd, Ord)]
 pub enum Damage {
     List(ListFault),
-    Entry(Fault),
+    Entry(Edition, Fault),
 }
 
 /// What each kind needs, as the ticket says.
@@ -34,84 +34,129 @@ impl Damage {
     pub fn of(bad: &Bad) -> Damage {
         match *bad {
             Bad::Blocks(fault) => Damage::List(fault),
-            Bad::Entry { fault, .. } => Damage::Entry(fault),
+            Bad::Entry { edition, fault, .. } => Damage::Entry(edition, fault),
         }
     }
 
-    /// Every damage that the reader tests for.
+    /// Every damage that the reader tests for: those of a list, and those of an
+    /// entry in each edition.
     pub fn all() -> Vec<Damage> {
-        let unknown = (0..KINDS).filter(|kind| named(*kind).is_none());
-        let unnamed = (0..KINDS).filter(|kind| named(*kind).is_some());
-        let unnamed = unnamed.flat_map(|kind| {
-            let fields = Field::ALL.into_iter();
-            let fields = fields.filter(move |field| !names(kind, *field));
-            fields.map(move |field| Fault::Unnamed(kind, field))
-        });
-        let needs = NEEDS.iter().flat_map(|(need, kinds)| {
-            let kinds = kinds.iter();
-            kinds.map(|kind| Fault::Need(*kind, *need))
-        });
-        let others = [
-            Fault::Number,
-            Fault::Record,
-            Fault::NoRecord,
-            Fault::Block(11),
-            Fault::Block(15),
-            Fault::Moved,
-            Fault::Collected,
-        ];
-        let entries = others.into_iter().chain(unknown.map(Fault::Kind));
-        let entries = entries.chain(unnamed).chain(needs);
-        let entries = entries.chain((1..ENTRY).map(Fault::Cut));
         let lists = [
             ListFault::TooManyWords,
             ListFault::NotWholeBlocks,
             ListFault::ListCut,
             ListFault::BreaksRule,
         ];
-        let lists = lists.into_iter().chain((0..WORD).map(ListFault::CountCut));
-        let lists = lists.map(Damage::List);
-        lists.chain(entries.map(Damage::Entry)).collect()
+        let before_old = BEGINNINGS.map(ListFault::TooManyForOld);
+        let counts = (0..WORD).map(ListFault::CountCut);
+        let lists = lists.into_iter().chain(before_old).chain(counts);
+        let entries = Edition::ALL.into_iter().flat_map(|edition| {
+            let faults = faults(edition).into_iter();
+            faults.map(move |fault| Damage::Entry(edition, fault))
+        });
+        lists.map(Damage::List).chain(entries).collect()
+    }
+
+    /// The edition of the file that it is made of; either will do for a list.
+    pub fn edition(self) -> Option<Edition> {
+        match self {
+            Damage::List(ListFault::TooManyForOld(_)) => Some(Edition::Old),
+            Damage::List(_) => None,
+            Damage::Entry(edition, _) => Some(edition),
+        }
     }
 
     /// Damages a good file so, if a place for it was found.
     pub fn make(self, random: &mut Random, good: &Saved) -> Option<Vec<u8>> {
         let bytes = match self {
             Damage::List(fault) => damage_list(random, good, fault)?,
-            Damage::Entry(Fault::Cut(length)) => {
+            Damage::Entry(_, Fault::Cut(length)) => {
                 let place = any_place(random, good)? as u64;
                 let start = good.bytes().len() - good.entries.len() * ENTRY;
                 cut(good, start + place as usize * ENTRY + length)
             }
-            Damage::Entry(fault) => damage_entry(random, good, fault)?.bytes(),
+            Damage::Entry(_, fault) => damage_entry(random, good, fault)?.bytes(),
         };
         let made = verdict(&bytes).err().map(|bad| Damage::of(&bad));
         (made == Some(self)).then_some(bytes)
     }
 }
 
+/// What an old journal may begin with.
+const BEGINNINGS: [Beginning; 4] = [
+    Beginning::NoEntry,
+    Beginning::CutEntry,
+    Beginning::GoodEntry,
+    Beginning::BadEntry,
+];
+
+/// Every fault that an entry can have in an edition.
+fn faults(edition: Edition) -> Vec<Fault> {
+    let is_known = |kind: &usize| named(edition, *kind).is_some();
+    let unknown = (0..KINDS).filter(|kind| !is_known(kind));
+    // A new journal's mark has fields as well, and names none of them.
+    let is_mark = move |kind: usize| edition == Edition::New && kind as u64 == EDITION;
+    let fields = (0..KINDS).filter(|kind| is_known(kind) || is_mark(*kind));
+    let unnamed = fields.flat_map(|kind| {
+        let fields = Field::ALL.into_iter();
+        let fields = fields.filter(move |field| unnamed(edition, kind, *field) != 0);
+        fields.map(move |field| Fault::Unnamed(kind, field))
+    });
+    let needs = NEEDS.iter().flat_map(|(need, kinds)| {
+        let kinds = kinds.iter();
+        kinds.map(|kind| Fault::Need(*kind, *need))
+    });
+    let others = [
+        Fault::Number,
+        Fault::Record,
+        Fault::NoRecord,
+        Fault::Block(11),
+        Fault::Block(15),
+        Fault::Moved,
+        Fault::Collected,
+    ];
+    let entries = others.into_iter().chain(unknown.map(Fault::Kind));
+    let entries = entries.chain(unnamed).chain(needs);
+    entries.chain((1..ENTRY).map(Fault::Cut)).collect()
+}
+
+impl Display for ListFault {
+    fn fmt(&self, text: &mut Formatter) -> fmt::Result {
+        match self {
+            ListFault::CountCut(length) => write!(text, "count of {length} bytes"),
+            ListFault::TooManyWords => write!(text, "list of too many words"),
+            ListFault::NotWholeBlocks => write!(text, "list not of whole blocks"),
+            ListFault::ListCut => write!(text, "list cut"),
+            ListFault::BreaksRule => write!(text, "list that breaks a rule"),
+            ListFault::TooManyForOld(beginning) => {
+                write!(text, "list too long for an old journal, {beginning:?}")
+            }
+        }
+    }
+}
+
+impl Display for Fault {
+    fn fmt(&self, text: &mut Formatter) -> fmt::Result {
+        match self {
+            Fault::Number => write!(text, "number"),
+            Fault::Kind(kind) => write!(text, "unknown kind {kind:2}"),
+            Fault::Unnamed(kind, field) => write!(text, "kind {kind:2} unnamed {field}"),
+            Fault::Need(kind, need) => write!(text, "kind {kind:2} needs {need:?}"),
+            Fault::Record => write!(text, "kind 15 record"),
+            Fault::NoRecord => write!(text, "kind 15 past the last record"),
+            Fault::Block(kind) => write!(text, "kind {kind:2} block not listed"),
+            Fault::Moved => write!(text, "kind 15 pages moved"),
+            Fault::Collected => write!(text, "kind 15 pages with those collected"),
+            Fault::Cut(length) => write!(text, "entry of {length:2} bytes"),
+        }
+    }
+}
+
 impl Display for Damage {
     fn fmt(&self, text: &mut Formatter) -> fmt::Result {
         match self {
-            Damage::List(ListFault::CountCut(length)) => {
-                write!(text, "count of {length} bytes")
-            }
-            Damage::List(ListFault::TooManyWords) => write!(text, "list of too many words"),
-            Damage::List(ListFault::NotWholeBlocks) => write!(text, "list not of whole blocks"),
-            Damage::List(ListFault::ListCut) => write!(text, "list cut"),
-            Damage::List(ListFault::BreaksRule) => write!(text, "list that breaks a rule"),
-            Damage::Entry(Fault::Number) => write!(text, "number"),
-            Damage::Entry(Fault::Kind(kind)) => write!(text, "unknown kind {kind:2}"),
-            Damage::Entry(Fault::Unnamed(kind, field)) => {
-                write!(text, "kind {kind:2} unnamed {field}")
-            }
-            Damage::Entry(Fault::Need(kind, need)) => write!(text, "kind {kind:2} needs {need:?}"),
-            Damage::Entry(Fault::Record) => write!(text, "kind 15 record"),
-            Damage::Entry(Fault::NoRecord) => write!(text, "kind 15 past the last record"),
-            Damage::Entry(Fault::Block(kind)) => write!(text, "kind {kind:2} block not listed"),
-            Damage::Entry(Fault::Moved) => write!(text, "kind 15 pages moved"),
-            Damage::Entry(Fault::Collected) => write!(text, "kind 15 pages with those collected"),
-            Damage::Entry(Fault::Cut(length)) => write!(text, "entry of {length:2} bytes"),
+            Damage::List(fault) => write!(text, "{fault}"),
+            Damage::Entry(edition, fault) => write!(text, "{edition} {fault}"),
         }
     }
 }
@@ -136,15 +181,44 @@ fn with_count(saved: &Saved, count: u64) -> Vec<u8> {
     bytes
 }
 
+/// The old journal after a list of 17 to 64 blocks.
+fn before_old(random: &mut Random, good: &Saved, beginning: Beginning) -> Option<Vec<u8>> {
+    let mut saved = good.clone();
+    saved.words = setups::good_of_more(random);
+    let start = WORD + saved.words.len() * WORD;
+    Some(match beginning {
+        Beginning::NoEntry => cut(&saved, start),
+        Beginning::CutEntry => {
+            if random.once_in(3) {
+                // A mark that is cut is no whole entry.
+                saved.entries = vec![[NUMBER.word(1) | KIND.word(EDITION), 0]];
+            }
+            cut(&saved, start + random.between(1, ENTRY as u64 - 1) as usize)
+        }
+        Beginning::GoodEntry => saved.bytes(),
+        Beginning::BadEntry => {
+            let first = saved.entries.first_mut()?;
+            match random.below(4) {
+                0 => first[0] ^= NUMBER.word(random.between(1, NUMBER.most())),
+                1 => first[0] = NUMBER.word(1) | KIND.word(random.pick(&[0, 4, 15, 25, 30])),
+                2 => first[0] |= Field::Record.words(random.between(1, 15))[0],
+                _ => *first = [random.next(), random.next()],
+            }
+            saved.bytes()
+        }
+    })
+}
+
 fn damage_list(random: &mut Random, good: &Saved, fault: ListFault) -> Option<Vec<u8>> {
     let most = (MAX_BLOCKS * BLOCK_WORDS) as u64;
     let count = good.words.len() as u64;
     Some(match fault {
         ListFault::CountCut(length) => cut(good, length),
+        ListFault::TooManyForOld(beginning) => before_old(random, good, beginning)?,
         ListFault::TooManyWords => {
             // Some of them agree with a good count in fewer bits, or in bytes.
             let high = random.pick(&[1 << 8, 1 << 16, 1 << 32, 1 << 61, 1 << 63]);
-            let any = random.next() | 1 << 7;
+            let any = random.next() | 1 << 9;
             let wrong = [most + 1, most + 5, count | high, u64::MAX, any];
             with_count(good, random.pick(&wrong))
         }
@@ -220,9 +294,12 @@ fn damage_unnamed(random: &mut Random, good: &Saved, kind: usize, field: Field) 
         Some(place) => place,
         None => add(random, &mut saved, kind, |added| added.is_ok())?,
     };
-    let highest = field.most() - field.most() / 2;
-    let any = random.between(1, field.most());
-    let [first, second] = field.words(random.pick(&[1, highest, any, field.most()]));
+    // Lowest, highest, any and all of the bits that are not named.
+    let free = unnamed(good.edition(), kind, field);
+    let any = random.next() & free;
+    let highest = free & !(free >> 1);
+    let [first, second] =
+        field.words(random.pick(&[free & free.wrapping_neg(), highest, any, free]));
     let entry = &mut saved.entries[place];
     *entry = [entry[0] | first, entry[1] | second];
     Some(saved)
@@ -233,7 +310,7 @@ fn damage_unnamed(random: &mut Random, good: &Saved, kind: usize, field: Field) 
 fn add_past_last(random: &mut Random, good: &Saved) -> Option<Saved> {
     let mut saved = good.clone();
     let begun = add(random, &mut saved, 12, |added| added.is_ok())?;
-    let last = Field::Record.most() as usize + 1;
+    let last = good.edition().last_record() as usize + 1;
     for place in begun + 1..=begun + last {
         add_at(random, &mut saved, place, 15, |added| added.is_ok())?;
     }
@@ -257,7 +334,7 @@ fn add(
     wanted: impl Fn(Result<(), Fault>) -> bool,
 ) -> Option<usize> {
     for _ in 0..8 {
-        let place = random.up_to(saved.entries.len() as u64) as usize;
+        let place = random.between(saved.first_place(), saved.entries.len() as u64) as usize;
         if add_at(random, saved, place, kind, &wanted).is_some() {
             return Some(place);
         }

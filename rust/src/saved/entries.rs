@@ -1,30 +1,33 @@
 //! Random entries of one kind, made for what a reading shows.
 
-use crate::entry::{KIND, NUMBER};
+use crate::entry::{KIND, NUMBER, RECORD};
 use crate::generate::random::Random;
 use crate::reader::fields::{named, Field};
-use crate::reader::Reading;
+use crate::reader::{Edition, Reading};
 use crate::state::{Service, CHANNELS, SERVICES, TOP_BIT};
 
-/// An entry that has the next number, and 0 in each field that its kind does
-/// not name. Its named fields often fit the reading, and often nearly do.
+/// An entry that has the next number, and 0 in each field and bit that its kind
+/// does not name in the reading's edition. Its named fields often fit the reading, and often nearly do.
 pub fn entry(random: &mut Random, reading: &Reading, kind: usize) -> [u64; 2] {
     let number = NUMBER.word(reading.entries + 1);
     let mut words = [number | KIND.word(kind as u64), 0];
     let (channel, service) = place(random, reading, kind);
     let block = block(random, reading);
-    for field in named(kind).unwrap_or_default() {
+    let edition = reading.edition;
+    let settled = edition.settled_words(record(random, reading), block);
+    for field in named(edition, kind).unwrap_or_default() {
         let value = match field {
             Field::Channel => channel,
             Field::Service => service,
-            Field::Record => record(random, reading),
+            Field::Record if kind == 15 => RECORD.of(settled[0]),
+            Field::Record => random.below(16),
             Field::Code => random.pick(&[0, 0, 0, 1, 2, 3, 4, 5, 7]),
             Field::Count => count(random, reading, block),
             Field::W => match kind {
-                5 | 9 if random.once_in(4) => handle(random, reading, channel) & !TOP_BIT,
+                5 | 9 if random.once_in(4) => handle(random, reading, channel) ^ TOP_BIT,
                 5 | 9 => handle(random, reading, channel),
                 11 => bits(random, reading),
-                15 => block,
+                15 => settled[1],
                 _ => random.next() >> random.below(64),
             },
         };
@@ -61,23 +64,29 @@ fn place(random: &mut Random, reading: &Reading, kind: usize) -> (u64, u64) {
 
 /// The record at the position, if there is one, or any.
 fn record(random: &mut Random, reading: &Reading) -> u64 {
-    let any = random.below(16);
+    let last = reading.edition.last_record();
+    let any = random.up_to(last);
     match reading.removal {
-        Some(removal) if !random.once_in(4) => removal.position & 15,
+        Some(removal) if !random.once_in(4) => removal.position & last,
         _ => any,
     }
 }
 
-/// The place of a block, mostly of one that is listed.
+/// The place of a block, mostly of one that is listed; of six bits in a new
+/// journal.
 fn block(random: &mut Random, reading: &Reading) -> u64 {
     let count = reading.blocks.count as u64;
     let listed = random.below(count.max(1));
-    match random.weighted(&[70, 10, 5, 10, 5]) {
+    let block = match random.weighted(&[70, 10, 5, 10, 5]) {
         0 => listed,
         1 => count,
         2 => random.between(count, 64),
         3 => listed | random.pick(&[1 << 6, 1 << 32, 1 << 63]),
         _ => random.next(),
+    };
+    match reading.edition {
+        Edition::Old => block,
+        Edition::New => block & 63,
     }
 }
 
@@ -95,12 +104,12 @@ fn count(random: &mut Random, reading: &Reading, block: u64) -> u64 {
     count.min(Field::Count.most())
 }
 
-/// A handle: offered or registered on the channel, nearly one (as its bare
-/// entry number), or any.
+/// A handle: offered or registered on the channel, nearly one (but for its top
+/// bit), or any.
 fn handle(random: &mut Random, reading: &Reading, channel: u64) -> u64 {
     let services = &reading.channels[channel as usize].services;
     let live: Vec<u64> = services.iter().filter_map(Service::handle).collect();
-    let any = TOP_BIT | random.up_to(reading.entries + 1);
+    let any = reading.edition.handle(random.up_to(reading.entries + 1));
     let live = random.pick_any(&live).unwrap_or(any);
     match random.weighted(&[70, 10, 5, 5, 5, 5]) {
         0 => live,
@@ -114,8 +123,12 @@ fn handle(random: &mut Random, reading: &Reading, channel: u64) -> u64 {
 
 /// Bits of blocks, mostly of those that are listed.
 fn bits(random: &mut Random, reading: &Reading) -> u64 {
+    let any = random.next();
     let count = reading.blocks.count as u64;
-    let listed = random.next() & ((1 << count) - 1);
+    if count == 64 {
+        return any;
+    }
+    let listed = any & ((1 << count) - 1);
     match random.weighted(&[60, 15, 15, 10]) {
         0 => listed,
         1 => listed | 1 << count,

@@ -1,10 +1,11 @@
 //! A saved file before it is bytes, and the files that random lists of calls
 //! leave.
 
+use crate::block::BLOCK_WORDS;
 use crate::entry::{KIND, NUMBER};
 use crate::generate::generate;
 use crate::lines::{Call, Host, Line};
-use crate::reader::{read, Reading, Verdict};
+use crate::reader::{read, Edition, Reading, Verdict};
 use crate::state::TOP_BIT;
 use crate::Blocks;
 
@@ -29,11 +30,70 @@ impl Saved {
         words.flat_map(|word| word.to_be_bytes()).collect()
     }
 
+    /// The edition that its first entry tells.
+    pub fn edition(&self) -> Edition {
+        Edition::of(self.entries.first().map(|[first, _]| *first))
+    }
+
+    /// The first place where the edition lets an entry be added.
+    pub fn first_place(&self) -> u64 {
+        match self.edition() {
+            Edition::Old => 0,
+            Edition::New => 1,
+        }
+    }
+
+    /// The blocks of its list.
+    pub fn blocks(&self) -> usize {
+        self.words.len() / BLOCK_WORDS
+    }
+
+    /// Whether the list is not too long for the edition.
+    pub fn list_fits(&self) -> bool {
+        self.blocks() <= self.edition().most_blocks()
+    }
+
+    /// Leaves so many entries, and at least a mark.
+    pub fn truncate(&mut self, count: u64) {
+        let count = count.max(self.first_place());
+        self.entries.truncate(count as usize);
+    }
+
+    /// The same journal in the old edition: without its mark, all numbers and
+    /// the handles that have them one lower, these without the top bit, and
+    /// record and block of kind 15 where 01 has them. It ends where a record is
+    /// past what the old edition can say. None if there are too many blocks.
+    pub fn to_old(&self) -> Option<Saved> {
+        let old = Edition::Old;
+        if self.edition() == old || self.blocks() > old.most_blocks() {
+            return None;
+        }
+        let mut entries = Vec::new();
+        for [first, second] in &self.entries[1..] {
+            let mut words = [first - NUMBER.word(1), *second];
+            match KIND.of(*first) {
+                5 | 9 => words[1] = old_handle(*second),
+                15 => {
+                    let (record, block) = Edition::New.settled(*first, *second);
+                    if record > old.last_record() {
+                        break;
+                    }
+                    let settled = old.settled_words(record, block);
+                    words = [words[0] | settled[0], settled[1]];
+                }
+                _ => {}
+            }
+            entries.push(words);
+        }
+        let words = self.words.clone();
+        Some(Saved { words, entries })
+    }
+
     /// The reading before the entry at a place, counted from 0; the entries
     /// before it are good.
     pub fn before(&self, place: usize) -> Reading {
         let blocks = Blocks::from_words(&self.words).expect("a list that setup accepts");
-        let mut reading = Reading::new(blocks);
+        let mut reading = Reading::new(blocks, self.edition());
         for entry in &self.entries[..place] {
             reading.entry(*entry).expect("a good entry");
         }
@@ -43,15 +103,25 @@ impl Saved {
     /// Puts an entry at a place, counted from 0. The numbers after it move
     /// up, and with them the handles that have such numbers.
     pub fn insert(&mut self, place: usize, entry: [u64; 2]) {
-        let handle = TOP_BIT | (place as u64 + 1);
+        let edition = self.edition();
+        let handles = edition.handle(place as u64 + 1)..edition.handle(u32::MAX.into());
         for moved in &mut self.entries[place..] {
             moved[0] += NUMBER.word(1);
             let has_handle = [5, 9].contains(&kind_of(moved));
-            if has_handle && (handle..u64::MAX).contains(&moved[1]) {
+            if has_handle && handles.contains(&moved[1]) {
                 moved[1] += 1;
             }
         }
         self.entries.insert(place, entry);
+    }
+}
+
+/// One of our handles as the old edition has it, and any other number where
+/// none of these is.
+fn old_handle(handle: u64) -> u64 {
+    match handle ^ TOP_BIT {
+        number @ 1..=0xffff_ffff => number - 1,
+        _ => handle | TOP_BIT,
     }
 }
 
@@ -68,7 +138,8 @@ fn entry(line: &str) -> Option<[u64; 2]> {
 }
 
 /// The block list and what was drained, of each list in a random text of so
-/// many calls. A list begins with a setup; a refused one leaves no blocks.
+/// many calls. A list begins with a setup; a refused one leaves no blocks, and
+/// no entries.
 pub fn lists(seed: u64, calls: u64) -> Vec<Saved> {
     let (mut host, mut answer) = (Host::default(), Vec::new());
     let mut all = vec![Saved::default()];
@@ -90,5 +161,6 @@ pub fn lists(seed: u64, calls: u64) -> Vec<Saved> {
             saved.entries.extend(answer.lines().filter_map(entry));
         }
     }
+    all.retain(Saved::list_fits);
     all
 }

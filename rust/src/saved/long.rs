@@ -56,13 +56,18 @@ pub fn write_long(entries: u64, mut file: impl Write) -> io::Result<()> {
     for word in BLOCKS {
         file.write_all(&word.to_be_bytes())?;
     }
+    if entries == 0 {
+        return file.flush();
+    }
+    let mut journal = [0; JOURNAL_WORDS];
     let mut agent = Agent {
-        state: setup(&BLOCKS, &[], &IDS).expect("good lists"),
-        journal: [0; JOURNAL_WORDS],
+        state: setup(&BLOCKS, &[], &IDS, &mut journal).expect("good lists"),
+        journal,
         out: [0; OUTPUT_BYTES],
         entries,
         file,
     };
+    agent.save()?;
     for channel in (0..4).cycle() {
         if agent.state.last == entries {
             break;

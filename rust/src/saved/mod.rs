@@ -1,5 +1,5 @@
 //! Saved files for the reader: what random lists of calls drained from the
-//! agent, whole and damaged in one place.
+//! agent, whole and damaged in one place, in both editions.
 
 pub mod counts;
 pub mod damage;
@@ -11,6 +11,7 @@ mod whole;
 pub use long::{write_long, MAX_ENTRIES};
 
 use crate::generate::random::Random;
+use crate::reader::Edition;
 use damage::Damage;
 use list::{lists, Saved};
 
@@ -22,9 +23,9 @@ pub struct File {
 }
 
 /// The files that are made together.
-pub const BATCH: u64 = 1_000;
+pub const BATCH: u64 = 2_000;
 /// The calls whose lists a batch is made of.
-const CALLS: u64 = 20_000;
+const CALLS: u64 = 30_000;
 /// The most entries that are taken from one list.
 const MAX_TAKEN: u64 = 300;
 
@@ -38,39 +39,65 @@ pub fn files(seed: u64, count: u64) -> impl Iterator<Item = File> {
 /// The files of one batch. Three of five are damaged, by each damage in turn.
 pub fn batch(seed: u64, number: u64) -> Vec<File> {
     let mut random = Random::new(seed ^ number.wrapping_mul(0x2545_f491_4f6c_dd1d));
-    let lists = lists(random.next(), CALLS);
+    let lists = Lists::new(random.next());
     let mut damages = Damage::all().into_iter().cycle();
     let mut next = |damaged| {
         let bytes = match damaged {
-            false => good(&mut random, &lists).bytes(),
-            true => bad(&mut random, &lists, damages.next()),
+            false => lists.good(&mut random, None).bytes(),
+            true => lists.bad(&mut random, damages.next()),
         };
         File { bytes, damaged }
     };
     (0..BATCH).map(|place| next(place % 5 > 1)).collect()
 }
 
-/// A good file from one of the lists, or from its beginning.
-fn good(random: &mut Random, lists: &[Saved]) -> Saved {
-    let list = &lists[random.below(lists.len() as u64) as usize];
-    let mut drained = list.clone();
-    if random.once_in(3) || drained.entries.len() as u64 > MAX_TAKEN {
-        let taken = random.up_to(MAX_TAKEN);
-        drained.entries.truncate(taken as usize);
-    }
-    whole::whole(random, &drained)
+/// What lists of calls drained, in each edition.
+struct Lists {
+    old: Vec<Saved>,
+    new: Vec<Saved>,
 }
 
-/// A file with the damage; one in 20, and where no place for it is found, is
-/// damaged anywhere.
-fn bad(random: &mut Random, lists: &[Saved], damage: Option<Damage>) -> Vec<u8> {
-    let tries = if random.once_in(20) { 0 } else { 100 };
-    for _ in 0..tries {
-        let good = good(random, lists);
-        if let Some(bytes) = damage.and_then(|damage| damage.make(random, &good)) {
-            return bytes;
-        }
+impl Lists {
+    fn new(seed: u64) -> Lists {
+        let all = lists(seed, CALLS);
+        let mut old: Vec<Saved> = all.iter().filter_map(Saved::to_old).collect();
+        let of_edition = |edition| move |saved: &Saved| saved.edition() == edition;
+        old.extend(
+            all.iter()
+                .filter(|saved| of_edition(Edition::Old)(saved))
+                .cloned(),
+        );
+        let new = all.into_iter().filter(of_edition(Edition::New)).collect();
+        Lists { old, new }
     }
-    let good = good(random, lists);
-    damage::anywhere(random, &good)
+
+    /// A good file of this or any edition, from one of the lists or from its
+    /// beginning.
+    fn good(&self, random: &mut Random, edition: Option<Edition>) -> Saved {
+        let edition = edition.unwrap_or_else(|| random.pick(&Edition::ALL));
+        let lists = match edition {
+            Edition::Old => &self.old,
+            Edition::New => &self.new,
+        };
+        let list = &lists[random.below(lists.len() as u64) as usize];
+        let mut drained = list.clone();
+        if random.once_in(3) || drained.entries.len() as u64 > MAX_TAKEN {
+            drained.truncate(random.up_to(MAX_TAKEN));
+        }
+        whole::whole(random, &drained)
+    }
+
+    /// A file with the damage; one in 20, and where no place for it is found,
+    /// is damaged anywhere.
+    fn bad(&self, random: &mut Random, damage: Option<Damage>) -> Vec<u8> {
+        let tries = if random.once_in(20) { 0 } else { 100 };
+        for _ in 0..tries {
+            let good = self.good(random, damage.and_then(Damage::edition));
+            if let Some(bytes) = damage.and_then(|damage| damage.make(random, &good)) {
+                return bytes;
+            }
+        }
+        let good = self.good(random, None);
+        damage::anywhere(random, &good)
+    }
 }

@@ -6,14 +6,14 @@ use crate::generate::random::Random;
 use crate::reader::fields::{named, KINDS};
 
 /// The kinds of other tickets, which show nothing.
-const OTHERS: [usize; 8] = [18, 19, 20, 21, 22, 23, 24, 31];
+const OTHERS: [usize; 7] = [18, 19, 20, 21, 22, 23, 24];
 
 /// A good file made from what the agent drained: the same, with entries of
 /// other tickets and of answers, with other values where any is good, or its beginning and
 /// entries that the agent would not write.
 pub fn whole(random: &mut Random, drained: &Saved) -> Saved {
     let mut saved = drained.clone();
-    match random.weighted(&[40, 30, 15, 15]) {
+    match random.weighted(&[30, 25, 15, 30]) {
         0 => {}
         1 => add_others(random, &mut saved),
         2 => change_free(random, &mut saved),
@@ -30,7 +30,7 @@ fn add_others(random: &mut Random, saved: &mut Saved) {
             true => random.pick(&[8, 10]),
             false => random.pick(&OTHERS),
         };
-        let place = random.up_to(saved.entries.len() as u64) as usize;
+        let place = random.between(saved.first_place(), saved.entries.len() as u64) as usize;
         let mut before = saved.before(place);
         let added = entry(random, &before, kind);
         if before.entry(added).is_ok() {
@@ -47,7 +47,7 @@ fn change_free(random: &mut Random, saved: &mut Saved) {
             return;
         };
         let kept = saved.entries[place];
-        let fields = named(kind_of(&kept)).unwrap_or_default();
+        let fields = named(saved.edition(), kind_of(&kept)).unwrap_or_default();
         let Some(field) = random.pick_any(fields) else {
             continue;
         };
@@ -61,9 +61,8 @@ fn change_free(random: &mut Random, saved: &mut Saved) {
 
 /// Adds entries that a reading accepts, one after another.
 fn grow(random: &mut Random, saved: &mut Saved) {
-    let kept = random.up_to(saved.entries.len() as u64) as usize;
-    saved.entries.truncate(kept);
-    let mut reading = saved.before(kept);
+    saved.truncate(random.up_to(saved.entries.len() as u64));
+    let mut reading = saved.before(saved.entries.len());
     for _ in 0..random.between(1, 200) {
         let kind = match random.weighted(&[10, 20, 20, 50]) {
             0 => random.below(KINDS as u64),

@@ -64,21 +64,22 @@ pub type Reply = Result<Vec<u8>, u64>;
 
 impl Bench {
     pub fn new(list: &[u64]) -> Bench {
+        let mut journal = vec![0xdead; 128];
         Bench {
-            state: setup(list, &[], &[]).unwrap(),
-            journal: vec![0xdead; 128],
-            out: vec![0xee; 672],
+            state: setup(list, &[], &[], &mut journal).unwrap(),
+            journal,
+            out: vec![0xee; 2592],
             number: 8,
         }
     }
 
-    /// Channel 2 ready, `dr-mem` registered there under handle 2, with its top bit.
+    /// Channel 2 ready, `dr-mem` registered there under handle 3, with its top bit.
     pub fn with_memory() -> Bench {
         let mut bench = Bench::new(&BLOCK_LIST);
         bench.receive(2, &build::init_req(1, 0)).unwrap();
         bench.offer(2, 0).unwrap();
         bench
-            .receive(2, &build::reg_ack(build::ours(2), 0))
+            .receive(2, &build::reg_ack(build::ours(3), 0))
             .unwrap();
         bench
     }
@@ -161,17 +162,17 @@ impl Bench {
             .collect()
     }
 
-    /// Sends a memory message under handle 2 on channel 2; gives the memory
+    /// Sends a memory message under handle 3 on channel 2; gives the memory
     /// message of the reply, if there is one.
     pub fn ask(&mut self, message: &[u8]) -> Vec<u8> {
         let reply = self
-            .receive(2, &build::data(build::ours(2), message))
+            .receive(2, &build::data(build::ours(3), message))
             .unwrap();
         if reply.is_empty() {
             return reply;
         }
         assert_eq!(reply[..4], [0, 0, 0, 9]);
-        assert_eq!(reply[8..16], build::ours(2).to_be_bytes());
+        assert_eq!(reply[8..16], build::ours(3).to_be_bytes());
         reply[16..].to_vec()
     }
 

@@ -1,5 +1,3 @@
--- `configuration::bit` meets its contract: the shift at each of the sixteen blocks.
--- Assumes nothing.
 use Rattle.configuration.proofs.Laws.{bit-is}
 use borrow.Author.Needs.{needs}
 use Rattle.configuration.proofs.bit.Statement.{statement}

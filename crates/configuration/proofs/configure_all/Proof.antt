@@ -1,27 +1,22 @@
--- `configuration::configure_all` meets its contract: the state, the mask, the failure and the results are those of the records passed.
--- Assumes nothing.
 use native.Mathlib.Omega.{arith}
-use borrow.Author.Needs.{needs}
-use Prim.Native.Nat.{_≤_, _-_, _*_}
+use Prim.Native.Nat.{_≤_, _-_}
 use mathlib.Core.Path.{_≡_, refl}
-use lib.ListN.{length, take, length-set}
-use Rattle.model.specs.Layout.{mostRecords}
-use Rattle.model.specs.Search.{BlocksInOrder}
-use Rattle.model.specs.Memory.{configuredBy}
-use Rattle.configuration.specs.Progress.{bitsEnd, progress}
-use Rattle.configuration.proofs.Laws.{progress-more, passes}
+use lib.ListN.{length}
+use Rattle.configuration.proofs.Laws.{Passed, passed-none, passed-more, passes, mask-fits, order-next}
 use Rattle.configuration.proofs.configure_all.Statement.{statement}
 use Rattle.configuration.proofs.configure_all.Tie as tie
 
 abbrev Inv-loop : tie.InvT-loop
-Inv-loop state₀ b n mask₀ failed₀ result₀ i₀ state mask failed result i = (i ≤ n) × (mask ≤ i * bitsEnd) × BlocksInOrder state × (length result ≡ mostRecords) × (progress state mask failed (take i result) ≡ configuredBy state₀ b i)
+Inv-loop state₀ b n out₀ mask₀ failed₀ i₀ state out mask failed i = (i ≤ n) × (length out ≡ length out₀) × Passed state₀ b out₀ i state mask failed out
 
 abbrev μ-loop : tie.MeasureT-loop
-μ-loop state₀ b n mask₀ failed₀ result₀ i₀ state mask failed result i = n - i
+μ-loop state₀ b n out₀ mask₀ failed₀ i₀ state out mask failed i = n - i
+
+word-count-requires : tie.Need-word-count-requires Inv-loop μ-loop
+word-count-requires c κs = tt
 
 loop-holds : tie.Need-loop-holds Inv-loop μ-loop
-unfolding configuredBy
-loop-holds c = (omega arith, omega arith, c .before .pre .2, refl, refl)
+loop-holds c = (omega arith, refl, passed-none _ _ _ (c .word-count .ensures .1) (c .before .before .before .before .pre .2))
 
 address-requires : tie.Need-address-requires Inv-loop μ-loop
 address-requires c κs = omega arith
@@ -30,16 +25,19 @@ size-requires : tie.Need-size-requires Inv-loop μ-loop
 size-requires c κs = omega arith
 
 configure-one-requires : tie.Need-configure-one-requires Inv-loop μ-loop
-configure-one-requires c κs = search needs
+configure-one-requires c κs = let p = c .before .before .before .before .loop .inv .2 in (p .blocks, p .size)
+
+put-result-requires : tie.Need-put-result-requires Inv-loop μ-loop
+put-result-requires c κs =
+    let k = c .before .before in
+    let l = k .before .before .before .before .before in
+    (omega arith, order-next _ _ _ _ (l .loop .inv .2) (k .before .before .before .address .ensures) (k .before .before .size .ensures) (k .configure-one .ensures), omega arith)
 
 add-mask : tie.Need-add-mask Inv-loop μ-loop
-add-mask c = omega (arith, c .before .configure-one .ensures .small)
-
-mul-result : tie.Need-mul-result Inv-loop μ-loop
-mul-result c = omega arith
-
-array-write-result : tie.Need-array-write-result Inv-loop μ-loop
-array-write-result c = omega arith
+add-mask c =
+    let k = c .before .before .before .before .before .before in
+    let l = k .before .before .before .before .before in
+    omega (arith, mask-fits _ _ _ _ (l .loop .inv .2) (k .before .before .before .address .ensures) (k .before .before .size .ensures) (k .configure-one .ensures))
 
 add-i : tie.Need-add-i Inv-loop μ-loop
 add-i c = omega arith
@@ -49,14 +47,16 @@ loop-less c = omega arith
 
 loop-again : tie.Need-loop-again Inv-loop μ-loop
 loop-again c =
-    let inv = c .before .before .before .before .before .before .before .loop .inv in
-    let step = c .before .before .configure-one .ensures in
-    (omega arith, omega (arith, step .small), step .blocks, rw length-set (inv .3), progress-more _ _ _ _ _ _ _ _ _ _ _ (inv .4) (omega arith) step (c .before .before .before .before .address .ensures) (c .before .before .before .size .ensures))
+    let w = c .before .before .before .before in
+    let k = w .before .before .before in
+    let l = k .before .before .before .before .before in
+    (omega arith, omega arith, passed-more _ _ _ _ (l .loop .inv .2) (k .before .before .before .address .ensures) (k .before .before .size .ensures) (k .configure-one .ensures) (w .put-result .ensures))
+
+same-length : tie.Need-same-length Inv-loop μ-loop
+same-length c = c .before .loop .inv .1
 
 returns : tie.Need-returns Inv-loop μ-loop
-returns c =
-    let inv = c .before .loop .inv in
-    passes _ _ _ _ _ _ _ _ (inv .0) (omega arith) (inv .2) (inv .4)
+returns c = let inv = c .before .loop .inv in passes _ _ _ _ _ (inv .0) (omega arith) (inv .2)
 
 pub configure-all-spec : {M : Type 1} → statement M
 configure-all-spec =
@@ -64,14 +64,15 @@ configure-all-spec =
     (tie.spec
     Inv-loop
     μ-loop
+    word-count-requires
     loop-holds
     address-requires
     size-requires
     configure-one-requires
+    put-result-requires
     add-mask
-    mul-result
-    array-write-result
     add-i
     loop-less
     loop-again
+    same-length
     returns)

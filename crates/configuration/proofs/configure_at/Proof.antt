@@ -8,7 +8,7 @@ configured-of-requires : tie.Need-configured-of-requires
 configured-of-requires c κs = search needs
 
 returns : tie.Need-returns
-returns c = unchanged-at _ _ (c .before .before .before .pre .1) (λ e. c .if1 .taken (c .before .configured-of .ensures ∙ e))
+returns c = unchanged-at _ _ (λ e. c .if1 .taken (c .before .configured-of .ensures ∙ e))
 
 set-configured-requires : tie.Need-set-configured-requires
 set-configured-requires c κs = search needs
@@ -16,11 +16,8 @@ set-configured-requires c κs = search needs
 bit-requires : tie.Need-bit-requires
 bit-requires c κs = search needs
 
-abbrev tested : tie.After-bit → tie.Else1
-tested c = c .before .before .before
-
 returns-2 : tie.Need-returns-2
-returns-2 c = let t = tested c in configured-at _ _ (t .before .before .before .pre .1) (sym (t .before .configured-of .ensures) ∙ t .if1 .left) (c .before .set-configured .ensures) (c .bit .ensures .0) (c .bit .ensures .1)
+returns-2 c = let t = c .before .before .before in let p = t .before .before .before .pre in configured-at _ _ (p .2) (p .1) (p .0) (sym (t .before .configured-of .ensures) ∙ t .if1 .left) (c .before .set-configured .ensures) (c .bit .ensures)
 
 pub configure-at-spec : {M : Type 1} → statement M
 configure-at-spec =

@@ -1,4 +1,6 @@
 use Rattle.model.proofs.Loops.{no, yes}
+use Rattle.model.proofs.Rules.{sound-facts}
+use Rattle.removal_state.proofs.Laws.{cancelled-is}
 use Rattle.memory.proofs.Laws.{cancel-idle, cancel-again, cancel-marks}
 use borrow.Author.Needs.{needs}
 use Rattle.memory.proofs.cancel.Statement.{statement}
@@ -19,14 +21,14 @@ same-length c = search needs
 abbrev replied : tie.After-is-outstanding → tie.After-put-bare
 replied c = c .before .before .before .before
 
-abbrev tested : tie.After-load-removal → tie.After-is-outstanding
+abbrev tested : tie.After-is-cancelled → tie.After-is-outstanding
 tested c = c .before .before .before
 
 returns : tie.Need-returns
 returns c = let t = c .before .before in cancel-idle _ _ _ _ _ (replied t .put-bare .ensures) (no _ (t .is-outstanding .ensures) (c .before .if1 .taken)) (c .answered .ensures)
 
-load-removal-requires : tie.Need-load-removal-requires
-load-removal-requires c κs = search needs
+is-cancelled-requires : tie.Need-is-cancelled-requires
+is-cancelled-requires c κs = search needs
 
 answered-requires-2 : tie.Need-answered-requires-2
 answered-requires-2 c κs = search needs
@@ -35,10 +37,10 @@ same-length-2 : tie.Need-same-length-2
 same-length-2 c = search needs
 
 returns-2 : tie.Need-returns-2
-returns-2 c = let m = c .before .before in let t = tested m in cancel-again _ _ _ _ _ (replied t .put-bare .ensures) _ (m .load-removal .ensures) (yes _ (t .is-outstanding .ensures) (m .before .before .if1 .left)) (c .before .if2 .taken) (c .answered2 .ensures)
+returns-2 c = let m = c .before .before in let t = tested m in cancel-again _ _ _ _ _ (replied t .put-bare .ensures) (yes _ (t .is-outstanding .ensures) (m .before .before .if1 .left)) (cancelled-is _ (m .is-cancelled .ensures) (c .before .if2 .taken)) (c .answered2 .ensures)
 
 mark-requires : tie.Need-mark-requires
-mark-requires c κs = search needs
+mark-requires c κs = let m = c .before .before in let t = tested m in let f = sound-facts _ (replied t .before .before .before .pre .0) .removal (yes _ (t .is-outstanding .ensures) (m .before .before .if1 .left)) in (f .one, f .flag)
 
 cancelled-requires : tie.Need-cancelled-requires
 cancelled-requires c κs = search needs
@@ -47,7 +49,7 @@ same-length-3 : tie.Need-same-length-3
 same-length-3 c = search needs
 
 returns-3 : tie.Need-returns-3
-returns-3 c = let e = c .before .before .before in let m = e .before in let t = tested m in cancel-marks _ _ _ _ _ (replied t .put-bare .ensures) _ (m .load-removal .ensures) (yes _ (t .is-outstanding .ensures) (m .before .before .if1 .left)) (e .if2 .left) (c .before .mark .ensures) (c .cancelled .ensures)
+returns-3 c = let e = c .before .before .before in let m = e .before in let t = tested m in cancel-marks _ _ _ _ _ (replied t .put-bare .ensures) (yes _ (t .is-outstanding .ensures) (m .before .before .if1 .left)) (cancelled-is _ (m .is-cancelled .ensures) (e .if2 .left)) (c .before .mark .ensures) (c .cancelled .ensures)
 
 pub cancel-spec : {M : Type 1} → statement M
 cancel-spec =
@@ -58,7 +60,7 @@ cancel-spec =
     answered-requires
     same-length
     returns
-    load-removal-requires
+    is-cancelled-requires
     answered-requires-2
     same-length-2
     returns-2

@@ -1,19 +1,30 @@
-use Rattle.memory.proofs.Laws.{status-some, status-settled}
+use native.Mathlib.Omega.{arith}
+use native.Mathlib.Omega.{arith}
+use Rattle.model.specs.Layout.{removalOf}
+use Rattle.memory.proofs.Laws.{told-some, told-settled}
 use borrow.Author.Needs.{needs}
 use Rattle.memory.proofs.put_status_record.Statement.{statement}
 use Rattle.memory.proofs.put_status_record.Tie as tie
 
-mul-put64 : tie.Need-mul-put64
-mul-put64 c = search needs
+position-of-requires : tie.Need-position-of-requires
+position-of-requires c κs = search needs
 
-array-read-put64 : tie.Need-array-read-put64
-array-read-put64 c = search needs
+count-of-requires : tie.Need-count-of-requires
+count-of-requires c κs = search needs
+
+size-of-requires : tie.Need-size-of-requires
+unfolding removalOf
+size-of-requires c κs = omega arith
 
 put64-requires : tie.Need-put64-requires
 put64-requires c κs = search needs
 
-mul-put64-2 : tie.Need-mul-put64-2
-mul-put64-2 c = search needs
+collected-of-requires : tie.Need-collected-of-requires
+collected-of-requires c κs = search needs
+
+mul-put64 : tie.Need-mul-put64
+unfolding removalOf
+mul-put64 c = omega arith
 
 put64-requires-2 : tie.Need-put64-requires-2
 put64-requires-2 c κs = search needs
@@ -21,14 +32,12 @@ put64-requires-2 c κs = search needs
 same-length : tie.Need-same-length
 same-length c = search needs
 
-abbrev first : tie.After-slice-known3 → tie.After-put64
-first c = c .before .before .before .before .before .before .before
-
-abbrev second : tie.After-slice-known5 → tie.After-put643
-second c = c .before .before .before .before .before .before
-
 returns : tie.Need-returns
-returns c = let f = first c in status-some _ _ (f .before .before .before .before .before .before .pre .2) (f .before .before .if1 .taken) (f .put64 .ensures) (c .before .before .put642 .ensures)
+returns c =
+    let s = c .before .before .before .before .before .before .before in
+    let p = s .before .before .before .before .before in
+    let e = p .before .before .pre in
+    told-some _ _ (e .2) (e .0) (p .position-of .ensures) (s .before .before .before .before .count-of .ensures) (s .before .before .before .if1 .taken) (s .before .size-of .ensures) (c .before .before .before .collected-of .ensures) (s .put64 .ensures) (c .before .before .put642 .ensures)
 
 put64-requires-3 : tie.Need-put64-requires-3
 put64-requires-3 c κs = search needs
@@ -40,16 +49,22 @@ same-length-2 : tie.Need-same-length-2
 same-length-2 c = search needs
 
 returns-2 : tie.Need-returns-2
-returns-2 c = let f = second c in status-settled _ _ (f .before .before .before .before .before .before .pre .2) (f .before .before .if1 .left) (f .put643 .ensures) (c .before .before .put644 .ensures)
+returns-2 c =
+    let s = c .before .before .before .before .before .before in
+    let p = s .before .before .before .before in
+    let e = p .before .before .pre in
+    told-settled _ _ (e .2) (e .0) (p .position-of .ensures) (s .before .before .before .count-of .ensures) (s .before .before .if1 .left) (s .put643 .ensures) (c .before .before .put644 .ensures)
 
 pub put-status-record-spec : {M : Type 1} → statement M
 put-status-record-spec =
     tie.close
     (tie.spec
-    mul-put64
-    array-read-put64
+    position-of-requires
+    count-of-requires
+    size-of-requires
     put64-requires
-    mul-put64-2
+    collected-of-requires
+    mul-put64
     put64-requires-2
     same-length
     returns

@@ -2,7 +2,7 @@
 -- Assumes nothing.
 use native.Mathlib.Omega.{arith}
 use mathlib.Core.Path.{_≡_, sym, _∙_}
-use Prim.Native.Nat.{_≤_, _-_}
+use Prim.Native.Nat.{_-_}
 use Rattle.model.specs.Layout.{idIn, peeredAt}
 use Rattle.model.proofs.Loops.{refute}
 use Rattle.peers.proofs.Laws.{Registered, unmarked, registered, minor-left}

@@ -1,5 +1,7 @@
-use mathlib.Core.Path.{sym, _∙_}
-use Rattle.removal.proofs.Laws.{stored-as, collects-last, collects-some}
+use Rattle.model.specs.Layout.{removalOf}
+use native.Mathlib.Omega.{arith}
+use native.Mathlib.Omega.{arith}
+use Rattle.removal.proofs.Laws.{removal-kept, held-kept, collects-last, collects-some}
 use borrow.Author.Needs.{needs}
 use Rattle.removal.proofs.collect.Statement.{statement}
 use Rattle.removal.proofs.collect.Tie as tie
@@ -7,40 +9,47 @@ use Rattle.removal.proofs.collect.Tie as tie
 pages-of-requires : tie.Need-pages-of-requires
 pages-of-requires c κs = search needs
 
+collected-of-requires : tie.Need-collected-of-requires
+collected-of-requires c κs = search needs
+
 add-if1 : tie.Need-add-if1
-add-if1 c = search needs
+unfolding removalOf
+add-if1 c = omega (arith, c .before .before .pages-of .ensures)
 
 set-configured-requires : tie.Need-set-configured-requires
 set-configured-requires c κs = search needs
 
 settle-requires : tie.Need-settle-requires
-settle-requires c κs = search needs
+settle-requires c κs = let g = c .before in let p = g .before .before .before .before .before .before .before .pre in (held-kept _ _ (p .1) (g .set-configured .ensures) (p .0), rw (removal-kept _ _ (p .1) (g .set-configured .ensures)) (p .2), p .1)
 
 returns : tie.Need-returns
-returns c = let t = c .before .before .before .before in collects-last _ _ _ (t .if1 .taken ∙ t .before .before .pages-of .ensures) (c .before .before .set-configured .ensures) (c .settle .ensures)
+unfolding removalOf
+returns c = let g = c .before .before in let k = g .before .before .before in let b = k .before .before in collects-last _ _ (b .before .before .pre .1) (omega (arith, k .collected-of .ensures, g .before .before .if1 .taken, b .pages-of .ensures)) (g .set-configured .ensures) (c .settle .ensures)
 
-collecting-requires : tie.Need-collecting-requires
-collecting-requires c κs = search needs
+channel-of-requires : tie.Need-channel-of-requires
+channel-of-requires c κs = search needs
 
-store-removal-requires : tie.Need-store-removal-requires
-store-removal-requires c κs = search needs
+add-pages-requires : tie.Need-add-pages-requires
+add-pages-requires c κs = search needs
 
 collected-requires : tie.Need-collected-requires
 collected-requires c κs = search needs
 
 returns-2 : tie.Need-returns-2
-returns-2 c = let t = c .before .before .before .before in collects-some _ _ _ (λ e. t .if1 .left (e ∙ sym (t .before .before .pages-of .ensures))) (stored-as _ _ _ (c .before .store-removal .ensures) (c .before .before .collecting .ensures)) (c .collected .ensures)
+unfolding removalOf
+returns-2 c = let t = c .before .before .before .before .before in let k = t .before in collects-some _ _ _ (λ e. t .if1 .left (omega (arith, k .collected-of .ensures, k .before .before .pages-of .ensures))) (c .before .add-pages .ensures) (c .before .before .before .channel-of .ensures) (c .collected .ensures)
 
 pub collect-spec : {M : Type 1} → statement M
 collect-spec =
     tie.close
     (tie.spec
     pages-of-requires
+    collected-of-requires
     add-if1
     set-configured-requires
     settle-requires
     returns
-    collecting-requires
-    store-removal-requires
+    channel-of-requires
+    add-pages-requires
     collected-requires
     returns-2)

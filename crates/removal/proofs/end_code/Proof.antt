@@ -1,25 +1,50 @@
+use Rattle.model.specs.Layout.{removalOf}
+use native.Mathlib.Omega.{arith}
+use native.Mathlib.Omega.{arith}
 use mathlib.Core.Path.{sym, ap, _∙_}
 use Rattle.model.specs.Work.{failingCode}
+use Rattle.removal_state.proofs.Laws.{cancelled-is}
 use Rattle.removal.proofs.Laws.{code-cancelled, code-settled, code-failing}
 use borrow.Author.Needs.{needs}
 use Rattle.removal.proofs.end_code.Statement.{statement}
 use Rattle.removal.proofs.end_code.Tie as tie
 
+is-cancelled-requires : tie.Need-is-cancelled-requires
+is-cancelled-requires c κs = search needs
+
 returns : tie.Need-returns
-returns c = sym (code-cancelled _ _ (c .if1 .taken))
+returns c = sym (code-cancelled _ _ (cancelled-is _ (c .before .is-cancelled .ensures) (c .if1 .taken)))
+
+count-of-requires : tie.Need-count-of-requires
+count-of-requires c κs = search needs
+
+position-of-requires : tie.Need-position-of-requires
+position-of-requires c κs = search needs
 
 returns-2 : tie.Need-returns-2
-returns-2 c = sym (code-settled _ _ (c .before .before .if1 .left) (c .if2 .taken))
+unfolding removalOf
+returns-2 c = let t = c .before .before .before in let s = t .before .before .args .state .now in sym (code-settled s (removalOf s) (cancelled-is s (t .before .is-cancelled .ensures) (t .if1 .left)) (omega arith))
 
 block-now-requires : tie.Need-block-now-requires
-block-now-requires c κs = search needs
+unfolding removalOf
+block-now-requires c κs = let p = c .before .before .before .before .before .pre in (p .blocks, omega (arith, p .records))
 
 failing-code-requires : tie.Need-failing-code-requires
 failing-code-requires c κs = search needs
 
 returns-3 : tie.Need-returns-3
-returns-3 c = c .failing-code .ensures ∙ ap failingCode (c .before .block-now .ensures) ∙ sym (code-failing _ _ (c .before .before .before .before .if1 .left) (c .before .before .if2 .left))
+unfolding removalOf
+returns-3 c = let t = c .before .before .before .before .before in let s = t .before .before .args .state .now in c .failing-code .ensures ∙ ap failingCode (c .before .block-now .ensures) ∙ sym (code-failing s (removalOf s) (cancelled-is s (t .before .is-cancelled .ensures) (t .if1 .left)) (omega arith))
 
 pub end-code-spec : {M : Type 1} → statement M
 end-code-spec =
-    tie.close (tie.spec returns returns-2 block-now-requires failing-code-requires returns-3)
+    tie.close
+    (tie.spec
+    is-cancelled-requires
+    returns
+    count-of-requires
+    position-of-requires
+    returns-2
+    block-now-requires
+    failing-code-requires
+    returns-3)

@@ -1,14 +1,27 @@
 use Rattle.model.specs.Choice.{_or_}
+use Rattle.removal_state.proofs.Laws.{cancelled-is, count-is, position-is}
+use borrow.Author.Needs.{needs}
 use Rattle.removal.proofs.is_over.Statement.{statement}
 use Rattle.removal.proofs.is_over.Tie as tie
 
+is-cancelled-requires : tie.Need-is-cancelled-requires
+is-cancelled-requires c κs = search needs
+
 returns : tie.Need-returns
 unfolding _or_
-returns c = rw (c .if1 .taken)
+returns c = rw (cancelled-is _ (c .before .is-cancelled .ensures) (c .if1 .taken))
+
+count-of-requires : tie.Need-count-of-requires
+count-of-requires c κs = search needs
+
+position-of-requires : tie.Need-position-of-requires
+position-of-requires c κs = search needs
 
 returns-2 : tie.Need-returns-2
 unfolding _or_
-returns-2 c = rw (c .before .if1 .left)
+returns-2 c = rw (cancelled-is _ (c .before .before .before .is-cancelled .ensures) (c .before .before .if1 .left), ← count-is _ (c .before .count-of .ensures), ← position-is _ (c .position-of .ensures))
 
 pub is-over-spec : {M : Type 1} → statement M
-is-over-spec = tie.close (tie.spec returns returns-2)
+is-over-spec =
+    tie.close
+    (tie.spec is-cancelled-requires returns count-of-requires position-of-requires returns-2)

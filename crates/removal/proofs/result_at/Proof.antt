@@ -1,25 +1,37 @@
--- `removal::result_at` meets its contract: the cases of the definition.
--- Assumes nothing.
-use borrow.Author.Tests.{lt-ltb, le-ltb, eq-eqb, ne-eqb}
-use Rattle.model.specs.Choice.{pick}
+use Rattle.removal.proofs.Laws.{result-settled, result-cancelled, result-failing, result-after}
+use borrow.Author.Needs.{needs}
 use Rattle.removal.proofs.result_at.Statement.{statement}
 use Rattle.removal.proofs.result_at.Tie as tie
 
+position-of-requires : tie.Need-position-of-requires
+position-of-requires c κs = search needs
+
+result-of-requires : tie.Need-result-of-requires
+result-of-requires c κs = search needs
+
 returns : tie.Need-returns
-unfolding pick
-returns c = rw (lt-ltb _ _ (c .if1 .taken))
+returns c = result-settled _ _ (c .before .before .position-of .ensures) (c .before .before .before .pre .0) (c .before .if1 .taken) (c .result-of .ensures)
+
+is-cancelled-requires : tie.Need-is-cancelled-requires
+is-cancelled-requires c κs = search needs
 
 returns-2 : tie.Need-returns-2
-unfolding pick
-returns-2 c = rw (le-ltb _ _ (c .before .if1 .left), c .if2 .taken)
+returns-2 c = let p = c .before .before .before in result-cancelled _ _ (p .position-of .ensures) (c .before .before .if1 .left) (c .before .is-cancelled .ensures) (c .if2 .taken)
 
 returns-3 : tie.Need-returns-3
-unfolding pick
-returns-3 c = rw (le-ltb _ _ (c .before .before .if1 .left), c .before .if2 .left, eq-eqb _ _ (c .if3 .taken))
+returns-3 c = let t = c .before .before .before in result-failing _ _ (t .before .position-of .ensures) (t .if1 .left) (c .before .before .is-cancelled .ensures) (c .before .if2 .left) (c .if3 .taken) (t .before .before .pre .1)
 
 returns-4 : tie.Need-returns-4
-unfolding pick
-returns-4 c = rw (le-ltb _ _ (c .before .before .if1 .left), c .before .if2 .left, ne-eqb _ _ (c .if3 .left))
+returns-4 c = let t = c .before .before .before in result-after _ _ (t .before .position-of .ensures) (t .if1 .left) (c .before .before .is-cancelled .ensures) (c .before .if2 .left) (c .if3 .left)
 
 pub result-at-spec : {M : Type 1} → statement M
-result-at-spec = tie.close (tie.spec returns returns-2 returns-3 returns-4)
+result-at-spec =
+    tie.close
+    (tie.spec
+    position-of-requires
+    result-of-requires
+    returns
+    is-cancelled-requires
+    returns-2
+    returns-3
+    returns-4)

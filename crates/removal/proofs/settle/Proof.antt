@@ -1,21 +1,29 @@
-use mathlib.Core.Path.{refl}
-use Rattle.removal.proofs.Laws.{stored-as}
+use Rattle.model.specs.Layout.{removalOf}
+use native.Mathlib.Omega.{arith}
+use native.Mathlib.Omega.{arith}
+use mathlib.Core.Path.{refl, _∙_}
 use borrow.Author.Needs.{needs}
 use Rattle.removal.proofs.settle.Statement.{statement}
 use Rattle.removal.proofs.settle.Tie as tie
 
+channel-of-requires : tie.Need-channel-of-requires
+channel-of-requires c κs = search needs
+
+position-of-requires : tie.Need-position-of-requires
+position-of-requires c κs = search needs
+
+settle-requires : tie.Need-settle-requires
+settle-requires c κs = search needs
+
 settled-requires : tie.Need-settled-requires
-settled-requires c κs = search needs
-
-store-removal-requires : tie.Need-store-removal-requires
-store-removal-requires c κs = search needs
-
-settled-requires-2 : tie.Need-settled-requires-2
-settled-requires-2 c κs = search needs
+unfolding removalOf
+settled-requires c κs = (omega arith, c .before .before .before .before .before .before .pre .2)
 
 returns : tie.Need-returns
-returns c = record { noReply = refl; length′ = refl; notes = c .settled2 .ensures; state = stored-as _ _ _ (c .before .store-removal .ensures) (c .before .before .settled .ensures) }
+unfolding removalOf
+returns c = record { noReply = refl; length′ = refl; notes = c .settled .ensures ∙ rw (c .before .before .before .before .before .channel-of .ensures, c .before .before .before .position-of .ensures); state = c .before .settle .ensures }
 
 pub settle-spec : {M : Type 1} → statement M
 settle-spec =
-    tie.close (tie.spec settled-requires store-removal-requires settled-requires-2 returns)
+    tie.close
+    (tie.spec channel-of-requires position-of-requires settle-requires settled-requires returns)

@@ -1,45 +1,39 @@
 use native.Mathlib.Omega.{arith}
+use native.Mathlib.Omega.{arith}
 use mathlib.Core.Path.{sym, _∙_}
-use Rattle.removal.proofs.Laws.{facts, fits, can-work, not-over, step-over, step-found}
+use Rattle.removal.proofs.Laws.{facts, fits, can-work, step-over, step-found}
 use borrow.Author.Needs.{needs}
 use Rattle.removal.proofs.step.Statement.{statement}
 use Rattle.removal.proofs.step.Tie as tie
 
-load-removal-requires : tie.Need-load-removal-requires
-load-removal-requires c κs = search needs
-
 is-over-requires : tie.Need-is-over-requires
 is-over-requires c κs = search needs
 
-abbrev at-over : tie.After-is-over → tie.After-load-removal
-at-over c = c .before
-
 end-step-requires : tie.Need-end-step-requires
-end-step-requires c κs = let m = at-over (c .before .before .before) in let p = m .before .before .before .pre in (fits _ _ (m .load-removal .ensures) (p .0) (p .1), facts _ _ (m .load-removal .ensures) (p .0) (p .1) .channels, p .2)
+end-step-requires c κs = let p = c .before .before .before .before .before .before .pre in (fits _ (p .0) (p .1), facts _ (p .0) (p .1) .channels, p .2)
 
 same-length : tie.Need-same-length
 same-length c = search needs
 
 returns : tie.Need-returns
-returns c = let t = c .before .before .before .before .before in step-over _ _ _ _ (t .before .before .load-removal .ensures) (sym (t .before .is-over .ensures) ∙ t .if1 .taken) (c .before .before .end-step .ensures)
+returns c = let t = c .before .before .before .before .before in step-over _ _ _ (sym (t .before .is-over .ensures) ∙ t .if1 .taken) (c .before .before .end-step .ensures)
 
 block-now-requires : tie.Need-block-now-requires
-block-now-requires c κs = let t = c .before in let m = at-over (t .before) in let p = m .before .before .before .pre in let f = fits _ _ (m .load-removal .ensures) (p .0) (p .1) in (f .blocks, omega (arith, f .records, not-over (m .load-removal .result) (sym (t .before .is-over .ensures) ∙ t .if1 .left)))
+block-now-requires c κs = let t = c .before in let p = t .before .before .before .before .pre in let w = can-work _ (p .0) (p .1) (sym (t .before .is-over .ensures) ∙ t .if1 .left) in (w .fits .blocks, omega (arith, w .fits .records, w .more))
 
 work-found-requires : tie.Need-work-found-requires
-work-found-requires c κs = let t = c .before .before .before .before in let m = at-over (t .before) in let p = m .before .before .before .pre in (can-work _ _ (m .load-removal .ensures) (p .0) (p .1) (sym (t .before .is-over .ensures) ∙ t .if1 .left), sym (c .before .before .block-now .ensures), p .2)
+work-found-requires c κs = let t = c .before .before .before .before in let p = t .before .before .before .before .pre in (can-work _ (p .0) (p .1) (sym (t .before .is-over .ensures) ∙ t .if1 .left), sym (c .before .before .block-now .ensures), p .2)
 
 same-length-2 : tie.Need-same-length-2
 same-length-2 c = search needs
 
 returns-2 : tie.Need-returns-2
-returns-2 c = let t = c .before .before .before .before .before .before .before in step-found _ _ _ _ (t .before .before .load-removal .ensures) (sym (t .before .is-over .ensures) ∙ t .if1 .left) (c .before .before .before .before .before .block-now .ensures) (c .before .before .work-found .ensures)
+returns-2 c = let t = c .before .before .before .before .before .before .before in step-found _ _ _ (sym (t .before .is-over .ensures) ∙ t .if1 .left) (c .before .before .before .before .before .block-now .ensures) (c .before .before .work-found .ensures)
 
 pub step-spec : {M : Type 1} → statement M
 step-spec =
     tie.close
     (tie.spec
-    load-removal-requires
     is-over-requires
     end-step-requires
     same-length

@@ -1,29 +1,52 @@
-use borrow.Author.Tests.{eq-eqb, ne-eqb}
 use Rattle.model.specs.Choice.{_and_}
+use Rattle.model.specs.Layout.{removalOf}
+use native.Mathlib.Omega.{arith}
+use native.Mathlib.Omega.{arith}
+use borrow.Author.Tests.{eq-eqb, ne-eqb}
+use Rattle.removal_state.proofs.Laws.{channel-is, handle-is}
 use borrow.Author.Needs.{needs}
 use Rattle.removal.proofs.still_registered.Statement.{statement}
 use Rattle.removal.proofs.still_registered.Tie as tie
 
+channel-of-requires : tie.Need-channel-of-requires
+channel-of-requires c κs = search needs
+
 mul-k : tie.Need-mul-k
-mul-k c = search needs
+unfolding removalOf
+mul-k c = omega arith
 
 add-k : tie.Need-add-k
-add-k c = search needs
+unfolding removalOf
+add-k c = omega arith
 
 stage-of-requires : tie.Need-stage-of-requires
-stage-of-requires c κs = search needs
+unfolding removalOf
+stage-of-requires c κs = omega arith
 
 returns : tie.Need-returns
 unfolding _and_
-returns c = rw (← c .before .stage-of .ensures, ne-eqb _ _ (c .if1 .taken))
+returns c = rw (← channel-is _ (c .before .before .channel-of .ensures), ← c .before .stage-of .ensures, ne-eqb _ _ (c .if1 .taken))
 
 handle-of-requires : tie.Need-handle-of-requires
-handle-of-requires c κs = search needs
+unfolding removalOf
+handle-of-requires c κs = omega arith
+
+handle-of-requires-2 : tie.Need-handle-of-requires-2
+handle-of-requires-2 c κs = search needs
 
 returns-2 : tie.Need-returns-2
 unfolding _and_
-returns-2 c = rw (← c .before .before .before .stage-of .ensures, ← c .before .handle-of .ensures, eq-eqb _ _ (c .before .before .if1 .left))
+returns-2 c = let t = c .before .before in rw (← channel-is _ (t .before .before .channel-of .ensures), ← handle-is _ (c .handle-of2 .ensures), ← t .before .stage-of .ensures, ← c .before .handle-of .ensures, eq-eqb _ _ (t .if1 .left))
 
 pub still-registered-spec : {M : Type 1} → statement M
 still-registered-spec =
-    tie.close (tie.spec mul-k add-k stage-of-requires returns handle-of-requires returns-2)
+    tie.close
+    (tie.spec
+    channel-of-requires
+    mul-k
+    add-k
+    stage-of-requires
+    returns
+    handle-of-requires
+    handle-of-requires-2
+    returns-2)

@@ -1,0 +1,69 @@
+use Rattle.memory.proofs.Laws.{pair-same}
+use mathlib.Core.Path.{_∙_}
+use native.Mathlib.Omega.{arith}
+use Prim.Native.Nat.{_≤_, _-_}
+use mathlib.Core.Path.{_≡_, refl}
+use lib.ListN.{length}
+use lib.Seq.{sets}
+use Rattle.model.specs.Choice.{joined}
+use Rattle.model.specs.Layout.{replyHeaderBytes}
+use Rattle.model.specs.Memory.{DR-MEM-RES-BLOCKED, addrIn, resultRecord, sizeIn}
+use Rattle.model.proofs.Replies.{result-length}
+use Rattle.records.proofs.Parts.{result-more}
+use Rattle.memory.proofs.put_blocked.Statement.{statement}
+use Rattle.memory.proofs.put_blocked.Tie as tie
+
+abbrev Inv-loop : tie.InvT-loop
+Inv-loop state b n out₀ i₀ out i = (i ≤ n) × (length out ≡ length out₀) × (out ≡ sets out₀ replyHeaderBytes (joined (λ k. resultRecord state (addrIn b k) (sizeIn b k) DR-MEM-RES-BLOCKED) i))
+
+abbrev μ-loop : tie.MeasureT-loop
+μ-loop state b n out₀ i₀ out i = n - i
+
+loop-holds : tie.Need-loop-holds Inv-loop μ-loop
+unfolding joined
+loop-holds c = (omega arith, refl, refl)
+
+address-requires : tie.Need-address-requires Inv-loop μ-loop
+address-requires c κs = omega arith
+
+size-requires : tie.Need-size-requires Inv-loop μ-loop
+size-requires c κs = omega arith
+
+put-result-requires : tie.Need-put-result-requires Inv-loop μ-loop
+put-result-requires c κs = (omega arith, c .before .before .before .before .before .before .before .pre .0, omega arith)
+
+add-i : tie.Need-add-i Inv-loop μ-loop
+add-i c = omega arith
+
+loop-less : tie.Need-loop-less Inv-loop μ-loop
+loop-less c = omega arith
+
+loop-again : tie.Need-loop-again Inv-loop μ-loop
+loop-again c =
+    let w = c .before .before in
+    let k = w .before .before in
+    let l = k .before .before .before in
+    let a = l .before .before .before .args in
+    (omega arith, omega arith, result-more _ (λ i. result-length _ _ _ _) _ _ (l .loop .inv .2) (w .put-result .ensures) (pair-same (a .state .now) (a .b .now) (l .loop .i) DR-MEM-RES-BLOCKED (k .before .address .ensures) (k .size .ensures)))
+
+same-length : tie.Need-same-length Inv-loop μ-loop
+same-length c = c .before .loop .inv .1
+
+returns : tie.Need-returns Inv-loop μ-loop
+returns c = let same : c .before .loop .i ≡ c .before .before .before .before .args .n = omega arith in c .before .loop .inv .2 ∙ rw same
+
+pub put-blocked-spec : {M : Type 1} → statement M
+put-blocked-spec =
+    tie.close
+    (tie.spec
+    Inv-loop
+    μ-loop
+    loop-holds
+    address-requires
+    size-requires
+    put-result-requires
+    add-i
+    loop-less
+    loop-again
+    same-length
+    returns)

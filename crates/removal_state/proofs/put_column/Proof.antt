@@ -1,0 +1,71 @@
+use native.Mathlib.Omega.{arith}
+use Prim.Native.Nat.{ℕ, _+_, _*_, _≤_, _-_}
+use mathlib.Core.Path.{_≡_, refl, _∙_}
+use lib.ListN.{take}
+use lib.Seq.{sets}
+use Rattle.wire.specs.BigEndian.{numberAt}
+use Rattle.model.specs.Choice.{tabulate}
+use Rattle.model.specs.Layout.{mostRecords, pairBytes}
+use Rattle.model.proofs.Choice.{tabulate-at, tabulate-length}
+use Rattle.state.proofs.Runs.{sets-more, sets-done}
+use Rattle.removal_state.proofs.put_column.Statement.{statement}
+use Rattle.removal_state.proofs.put_column.Tie as tie
+
+abbrev Inv-loop : tie.InvT-loop
+Inv-loop state₀ word b n at i₀ state i = (i ≤ mostRecords) × (state ≡ sets state₀ word (take i (tabulate (λ k. numberAt b (at + k * pairBytes) 8) mostRecords)))
+
+abbrev μ-loop : tie.MeasureT-loop
+μ-loop state₀ word b n at i₀ state i = mostRecords - i
+
+loop-holds : tie.Need-loop-holds Inv-loop μ-loop
+loop-holds c = (omega arith, refl)
+
+number-of-requires : tie.Need-number-of-requires Inv-loop μ-loop
+number-of-requires c κs = (omega arith, omega arith, omega arith)
+
+add-state : tie.Need-add-state Inv-loop μ-loop
+add-state c = omega arith
+
+mul-state : tie.Need-mul-state Inv-loop μ-loop
+mul-state c = omega arith
+
+element-write-state : tie.Need-element-write-state Inv-loop μ-loop
+element-write-state c = omega arith
+
+add-i : tie.Need-add-i Inv-loop μ-loop
+add-i c = omega arith
+
+loop-less : tie.Need-loop-less Inv-loop μ-loop
+loop-less c = omega arith
+
+loop-again : tie.Need-loop-again Inv-loop μ-loop
+loop-again c =
+    let l = c .before .before .loop in
+    let a = c .before .before .before .before .args in
+    let f : ℕ → ℕ = λ k. numberAt (a .b .now) (a .at + k * pairBytes) 8 in
+    let e = tabulate-length f mostRecords in
+    (omega arith, rw (l .inv .1, c .number-of .ensures, ← tabulate-at f mostRecords (l .i) 0 (omega arith)) (sets-more _ (tabulate f mostRecords) (a .word) (l .i) 0 (omega arith)))
+
+returns : tie.Need-returns Inv-loop μ-loop
+returns c =
+    let l = c .before .loop in
+    let a = c .before .before .before .args in
+    let f : ℕ → ℕ = λ k. numberAt (a .b .now) (a .at + k * pairBytes) 8 in
+    let e = tabulate-length f mostRecords in
+    l .inv .1 ∙ sets-done _ (tabulate f mostRecords) (a .word) (l .i) (omega arith)
+
+pub put-column-spec : {M : Type 1} → statement M
+put-column-spec =
+    tie.close
+    (tie.spec
+    Inv-loop
+    μ-loop
+    loop-holds
+    number-of-requires
+    add-state
+    mul-state
+    element-write-state
+    add-i
+    loop-less
+    loop-again
+    returns)
