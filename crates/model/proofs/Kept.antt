@@ -155,16 +155,12 @@ call-sound s j (drain run) size good =
     (λ z n few e. drained-sound s j run size good n few)
     (λ z. unfold refused in (good, size))
 
--- an accepted setup, and a refused one
-set-up : (l : Lists) (j : List ℕ) → (P : SetUp → Type 0) → (setupRefusal l (length j) ≡ 0 → P (record { refusal = 0; state = markedState l; journal = stored j 1 (entryOf 1 markEvent) })) → ((setupRefusal l (length j) ≡ 0 → ⊥) → P (record { refusal = setupRefusal l (length j); state = setupState noLists; journal = j })) → P (setUp l j)
-unfolding setUp
-set-up l j P took refused′ = on-pick P (eqb (setupRefusal l (length j)) 0) _ _ (λ e. took (eqb-true _ 0 e)) (λ e. refused′ (eqb-false _ 0 e))
-
 setup-kept : (l : Lists) (j : List ℕ) → setUp l j .refusal ≡ 0 → (sound (setUp l j .state) ≡ true) × (length (setUp l j .state) ≡ stateWords)
+unfolding setUp
 setup-kept l j =
-    set-up l j (λ r. r .refusal ≡ 0 → (sound (r .state) ≡ true) × (length (r .state) ≡ stateWords))
-    (λ e z. let s = starts l (setup-accepts l (length j) e .1) in (s .sounds, s .size))
-    (λ n z. absurd (n z))
+    on-pick (λ (r : SetUp). r .refusal ≡ 0 → (sound (r .state) ≡ true) × (length (r .state) ≡ stateWords)) (eqb (setupRefusal l (length j)) 0) _ _
+    (λ e z. let s = starts l (setup-accepts l (length j) (eqb-true _ 0 e) .1) in (s .sounds, s .size))
+    (λ e z. absurd (eqb-false _ 0 e z))
 
 -- the empty state has no last number
 empty-unsound : sound (setupState noLists) ≡ false
@@ -178,10 +174,11 @@ empty-unsound = go (sound (setupState noLists)) refl
     go false e = refl
 
 setup-refused : (l : Lists) (j : List ℕ) → (setUp l j .refusal ≡ 0 → ⊥) → sound (setUp l j .state) ≡ false
+unfolding setUp
 setup-refused l j =
-    set-up l j (λ r. (r .refusal ≡ 0 → ⊥) → sound (r .state) ≡ false)
+    on-pick (λ (r : SetUp). (r .refusal ≡ 0 → ⊥) → sound (r .state) ≡ false) (eqb (setupRefusal l (length j)) 0) _ _
     (λ e n. absurd (n refl))
-    (λ n z. empty-unsound)
+    (λ e z. empty-unsound)
 
 runs-sound : (calls : List Call) (u : Run) → sound (u .state) ≡ true → length (u .state) ≡ stateWords → sound (runs u (history u calls) .state) ≡ true
 unfolding runs history
@@ -199,9 +196,10 @@ pub soundness-kept : SoundnessKept
 soundness-kept = record { bySetup = setup-kept; refusedSetup = setup-refused; byCall = call-sound; byList = list-sound }
 
 pub setup-keeps : SetupKept
+unfolding setUp
 setup-keeps = record {
-  refusedJournal = λ l j. set-up l j (λ r. (r .refusal ≡ 0 → ⊥) → r .journal ≡ j) (λ e n. absurd (n refl)) (λ n z. refl);
-  otherSlots = λ l j i p r. set-up l j (λ u. getD (u .journal) i 0 ≡ getD j i 0) (λ e. stored-else j 1 i (entryOf 1 markEvent) p r) (λ n. refl);
+  refusedJournal = λ l j. on-pick (λ (r : SetUp). (r .refusal ≡ 0 → ⊥) → r .journal ≡ j) (eqb (setupRefusal l (length j)) 0) _ _ (λ e n. absurd (n refl)) (λ e n. refl);
+  otherSlots = λ l j i p r. on-pick (λ (u : SetUp). getD (u .journal) i 0 ≡ getD j i 0) (eqb (setupRefusal l (length j)) 0) _ _ (λ e. stored-else j 1 i (entryOf 1 markEvent) p r) (λ e. refl);
 }
 
 pub removal-kept : RemovalKept

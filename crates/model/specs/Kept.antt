@@ -35,7 +35,7 @@ pub record SoundnessKept : Type 0 where
       (sound (outcome s j call .state) ≡ true) × (length (outcome s j call .state) ≡ stateWords)
   pub byList : (l : Lists) (j : List ℕ) (calls : List Call) → setUp l j .refusal ≡ 0 → sound (runs (start l j) (history (start l j) calls) .state) ≡ true
 
--- A setup, of the journal that it is lent: refused, it "writes nothing anywhere"; else it "adds this entry" (02, ticket 8), in the slot of number 1.
+-- A setup, of the journal that it is lent: refused, it "writes nothing anywhere"; else no slot is touched but that of number 1, of the entry that it "adds" (02, ticket 8).
 pub record SetupKept : Type 0 where
   pub refusedJournal : (l : Lists) (j : List ℕ) → (setUp l j .refusal ≡ 0 → ⊥) → setUp l j .journal ≡ j
   pub otherSlots :
