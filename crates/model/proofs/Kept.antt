@@ -25,7 +25,7 @@ use Rattle.model.proofs.Effects.{shape}
 use Rattle.model.proofs.Calls.{Taken, taken, on-act, on-drain}
 use Rattle.model.proofs.Above.{turn-keeps, turn-orders}
 use Rattle.model.proofs.Peers.{ids-same}
-use Rattle.model.proofs.Setup.{markedState, setup-accepts, starts, empty-last}
+use Rattle.model.proofs.Setup.{setup-accepts, starts, empty-last}
 use Rattle.model.specs.Journal.{markEvent, stored, entriesAt, entryOf, fieldsOf, wordsOf}
 use Rattle.model.specs.Blocks.{Lists, noLists, setupState}
 use Rattle.model.specs.Layout.{entryWords, heldOf, lastOf, stateWords}
