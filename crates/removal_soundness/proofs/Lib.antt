@@ -1,0 +1,3 @@
+-- Lemmas of this part of soundness.
+-- Assumes nothing.
+pub mod Rules
