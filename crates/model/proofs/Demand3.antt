@@ -9,9 +9,10 @@ use Rattle.model.specs.Choice.{pick, _and_, _or_}
 use Rattle.model.specs.declared.Started.{Started}
 use Rattle.model.specs.Blocks.{Lists, acceptedLists}
 use Rattle.model.specs.Calls.{Outcome, SetUp, setupRefusal, setUp, effectOf}
-use Rattle.model.specs.Layout.{journalWords, Device, devicesOf, firstDeviceWord, lastOf, withCounts}
+use Rattle.model.specs.Layout.{journalWords, Device, devicesOf, firstDeviceWord, firstIdWord, idsOf, lastOf, withCounts}
 use Rattle.model.specs.Devices.{devicesKeep}
-use Rattle.model.specs.Reading.{readIn, readingIn, viewOf, View, setupView, devicesShown, setupDevices, readDevices, readingDevices, Orders, ordersShown, setupOrders, readOrders, readingOrders, Peer, peersShown, setupPeers, readPeers, readingPeers}
+use Rattle.model.specs.Peers.{idsKeep}
+use Rattle.model.specs.Reading.{readIn, readingIn, viewOf, View, setupView, devicesShown, setupDevices, readDevices, readingDevices, Orders, ordersShown, setupOrders, readOrders, readingOrders, Peer, peersShown, setupPeers, idsShown, setupIds, readPeers, readingPeers}
 use Rattle.entry.specs.declared.Fields.{Fields}
 use Rattle.entry.specs.Word.{unpacked, InRange}
 use lib.Dec.{eqb}
@@ -25,7 +26,7 @@ use Rattle.model.proofs.Setup.{markedState, setup-accepts, starts}
 use Rattle.model.proofs.Words.{counts-frame}
 use Rattle.model.proofs.Devices.{shown-same}
 use Rattle.model.proofs.Above.{turn-keeps, turn-shown, turn-ordered, orders-shown-same}
-use Rattle.model.proofs.Peers.{peers-shown-same}
+use Rattle.model.proofs.Peers.{ids-same, ids-shown-same, peers-shown-same}
 use Rattle.model.proofs.Ring.{fields-back, stored-same}
 use Rattle.model.proofs.Calls.{Taken, taken}
 use Rattle.model.proofs.Lists.{Kept, AfterCall, grown, shifted, entries-grown, entries-shifted, meets-outcome, on-list, listed-more}
@@ -202,6 +203,26 @@ peers-step b u k q = record {
         (unfold entryOf in (ap (λ (x : Fields). readPeers x (e .event .word) (peersShown (u .state))) (fields-back (lastOf (u .state) + 1) (e .event) (t .good .entry .range))
         ∙ sym (unfold grown in (peers-counted (e .state) _ _) ∙ t .good .peers .reads (lastOf (u .state) + 1))))
 
+-- and the ids stay those that setup was given
+abbrev IdsKept : Lists → Run → Type 0
+IdsKept l u = idsShown (u .state) ≡ setupIds l
+
+ids-counted : (s : List ℕ) (last held : ℕ) → idsKeep s firstIdWord (idsOf s) ≡ true → idsShown (withCounts s last held) ≡ idsShown s
+ids-counted s last held e = ids-shown-same s (withCounts s last held) (λ j lo hi. counts-frame s last held j (λ p q. omega arith)) e
+
+ids-step : (b : View) (l : Lists) (u : Run) → Kept b u → IdsKept l u → AfterCall (IdsKept l) u
+ids-step b l u k q = record {
+  onAct = λ a out z. grows (effectOf (u .state) a) out (taken (u .state) (u .journal) out a (k .size) z);
+  onDrain = λ n h. unfold shifted in (ids-counted (u .state) _ _ (sound-facts (u .state) (k .sounds) .ids)) ∙ q;
+  onRefusal = q;
+}
+  where
+    grows : (e : Effect) (out : List ℕ) → Taken (u .state) (u .journal) out e → idsShown (grown u e .state) ≡ setupIds l
+    grows e out t =
+        let old = t .given .facts .ids in
+        let same = t .good .peers .ids in
+        unfold grown in (ids-counted (e .state) _ _ (ids-same (u .state) (e .state) same old)) ∙ ids-shown-same (u .state) (e .state) same old ∙ q
+
 -- at each place of a list: the registrations read back by the entries before it
 peers-meeting : (l : Lists) (s j : List ℕ) (ds : List Done) → First l s j → AllMeet (newRun s j) ds → PeersRead (runs (newRun s j) ds)
 peers-meeting l s j ds f m = on-list (setupView l) PeersRead (peers-step (setupView l)) (newRun s j) ds m (f .kept) (peers-first l s j f) .1
@@ -225,6 +246,10 @@ demand3 l r j₀ j ds e z m =
       readsOrders =
           on-list (setupView l) OrdersRead (orders-step (setupView l)) (newRun (r .state) j) ds m first (orders-first l (r .state) j begun) .1;
       readsPeers = peers-meeting l (r .state) j ds begun m;
+      keepsIds =
+          on-list (setupView l) (IdsKept l) (ids-step (setupView l) l) (newRun (r .state) j) ds m first
+          (rw (begun .state) (starts l (begun .accepted) .ids))
+          .1;
       delivers =
           λ before later c handle msg out o q d y.
           let m′ = rw q at m in

@@ -4,18 +4,18 @@ use Prim.Native.Nat.{ℕ, zero, suc, _+_, _-_, _*_, _/_, _%_, _<_, _≤_}
 use native.Mathlib.Omega.{arith}
 use mathlib.Core.Path.{_≡_, refl, sym, ap, _∙_}
 use mathlib.Core.Bool.{Bool, true, false, not, _&&_}
-use mathlib.Core.List.{List}
+use mathlib.Core.List.{List, []}
 use lib.ListN.{length, getD}
 use lib.Dec.{eqb, leb, ltb}
 use borrow.Author.Tests.{leb-true, le-leb, ltb-true, ne-eqb, eqb-true, eqb-false}
-use Rattle.model.specs.Choice.{pick, _and_, _or_, every, clearedFrom}
+use Rattle.model.specs.Choice.{pick, _and_, _or_, every, clearedFrom, tabulate}
 use Rattle.model.specs.declared.Event.{Event}
-use Rattle.model.specs.Layout.{idIn, idAt, idBytesIn, idByteIn, idsOf, wordBytes, idPlace, idBytesPlace, idMinorPlace, idWords, mostIds, mostIdBytes, highestMinor, channelCount, peerWords, idCountWord, firstIdWord, firstPeerWord, stateWords, readyAt, peeredAt, peerHandleAt, peerMinorAt, withChannel}
+use Rattle.model.specs.Layout.{PeerId, idIn, idAt, idBytesIn, idByteIn, idsOf, wordBytes, idPlace, idBytesPlace, idMinorPlace, idWords, mostIds, mostIdBytes, highestMinor, channelCount, peerWords, idCountWord, firstIdWord, firstPeerWord, stateWords, readyAt, peeredAt, peerHandleAt, peerMinorAt, withChannel}
 use Rattle.model.specs.Devices.{wordsHolding, paddingBytes, sameName}
 use Rattle.model.specs.Peers.{idBytesKeep, idKeeps, idApart, idsKeep, peersBelow, peerSound, peerApart, peersSound}
 use Rattle.model.specs.Journal.{kindNoted, kindReady, kindClosed, kindVersionRefused, kindPeerRegistered, kindPeerEnded, fieldsOf}
 use Rattle.model.specs.Messages.{Effect, effect}
-use Rattle.model.specs.Reading.{Peer, noPeer, peer, peerPlace, peersShown, readPeers}
+use Rattle.model.specs.Reading.{Peer, noPeer, peer, peerPlace, peersShown, readPeers, idsShown}
 use Rattle.model.proofs.Choice.{both, join, every-at, every-make, every-same, tabulate-same, tabulate-cleared}
 use Rattle.model.proofs.Words.{Agree, channel-frame, channel-peers, channel-unpeered}
 
@@ -108,16 +108,27 @@ ids-keep l t at to n a e =
         (every-at (λ q. not (sameName (idIn l at q .bytes) (idIn l at p .bytes))) p q (unfold idApart in old) g))))
 
 -- Of two states: the ids, and the registrations.
-pub ids-same : (s t : List ℕ) → Agree s t idCountWord firstPeerWord → idsKeep s firstIdWord (idsOf s) ≡ true → idsKeep t firstIdWord (idsOf t) ≡ true
-ids-same s t a e =
+same-id-words : (s t : List ℕ) → Agree s t idCountWord firstPeerWord → idsKeep s firstIdWord (idsOf s) ≡ true → (p : ℕ) → p < idsOf s → SameIdWords s t firstIdWord firstIdWord p
+same-id-words s t a e p h j g =
     let f = id-facts s firstIdWord (idsOf s) e in
-    rw (a idCountWord (omega arith) (omega arith))
-    (ids-keep s t firstIdWord firstIdWord (idsOf s)
-    (λ p h j g.
     let few = f .few in
     let short = id-few s firstIdWord p (f .keeps p h) in
-    a (firstIdWord + p * idWords + j) (omega arith) (omega arith))
-    e)
+    a (firstIdWord + p * idWords + j) (omega arith) (omega arith)
+
+abbrev noId : PeerId
+noId = record { major = 0; minor = 0; bytes = [] }
+
+pub ids-listed : (l t : List ℕ) (at to n : ℕ) → ((p : ℕ) → p < n → SameIdWords l t at to p) → tabulate (idIn t to) n ≡ tabulate (idIn l at) n
+ids-listed l t at to n a = tabulate-same (idIn l at) (idIn t to) n noId (λ p h. id-same l t at to p (a p h))
+
+pub ids-shown-same : (s t : List ℕ) → Agree s t idCountWord firstPeerWord → idsKeep s firstIdWord (idsOf s) ≡ true → idsShown t ≡ idsShown s
+unfolding idsShown
+ids-shown-same s t a e =
+    rw (a idCountWord (omega arith) (omega arith)) (ids-listed s t firstIdWord firstIdWord (idsOf s) (same-id-words s t a e))
+
+pub ids-same : (s t : List ℕ) → Agree s t idCountWord firstPeerWord → idsKeep s firstIdWord (idsOf s) ≡ true → idsKeep t firstIdWord (idsOf t) ≡ true
+ids-same s t a e =
+    rw (a idCountWord (omega arith) (omega arith)) (ids-keep s t firstIdWord firstIdWord (idsOf s) (same-id-words s t a e) e)
 
 -- the words of a channel's registrations
 abbrev pub OwnPeers : List ℕ → List ℕ → ℕ → Type 0

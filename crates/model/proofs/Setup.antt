@@ -17,13 +17,13 @@ use Rattle.model.specs.Peers.{acceptedIds, idsKeep}
 use Rattle.model.specs.Devices.{acceptedDevices, devicesKeep}
 use Rattle.model.specs.Blocks.{blockKeeps, endBefore, blocksKeep, withList, setupState, Lists, acceptedBlocks, acceptedLists, noLists, names, namedIn, namedBlock}
 use Rattle.model.specs.State.{ordersSound, sound}
-use Rattle.model.specs.Reading.{stageOf, channelsOf, servicesOf, blocksShown, removalShown, viewOf, setupView, devicesShown, setupDevices, orderShown, ordersShown, setupOrders, noPeer, peersShown, setupPeers}
+use Rattle.model.specs.Reading.{stageOf, channelsOf, servicesOf, blocksShown, removalShown, viewOf, setupView, devicesShown, setupDevices, orderShown, ordersShown, setupOrders, noPeer, peersShown, setupPeers, idsShown, setupIds}
 use Rattle.model.proofs.Choice.{both, every-at, tabulate-same, first-same}
 use Rattle.model.proofs.Words.{sets-below, sets-above, sets-at, removal-same, counts-frame, counts-length, last-counts, held-counts}
 use Rattle.model.proofs.View.{Shape, channels-same, services-same, block-same, counts-view}
 use Rattle.model.proofs.Above.{orders-kept, orders-shown-same}
 use Rattle.model.proofs.Devices.{shown-same as devices-shown-same, SameWords, device-facts, name-few, flag-few, devices-keep, device-same}
-use Rattle.model.proofs.Peers.{SameIdWords, id-facts, id-few, ids-keep, unmarked-sound, peers-shown-same}
+use Rattle.model.proofs.Peers.{SameIdWords, id-facts, id-few, ids-keep, unmarked-sound, peers-shown-same, ids-listed, ids-shown-same}
 use Rattle.model.proofs.Rules.{service-idle}
 use Rattle.model.proofs.Sounds.{removes-none, sound-counted}
 use Rattle.model.specs.Messages.{services}
@@ -231,6 +231,10 @@ module _ (l : Lists) (w : WholeLists l) where
   setup-ids : idsKeep (setupState l) firstIdWord (idsOf (setupState l)) ≡ true
   setup-ids = rw id-count (ids-keep (l .ids) (setupState l) 0 firstIdWord (length (l .ids) / idWords) id-words (w .ids .keeps))
 
+  setup-listed : idsShown (setupState l) ≡ setupIds l
+  unfolding idsShown setupIds
+  setup-listed = rw id-count (ids-listed (l .ids) (setupState l) 0 firstIdWord (length (l .ids) / idWords) id-words)
+
   -- no peer registration
   top : (j : ℕ) → firstPeerWord ≤ j → j < stateWords → getD (setupState l) j 0 ≡ 0
   unfolding setupState equipped listed zeros
@@ -343,6 +347,7 @@ pub record Starts (l : Lists) : Type 0 where
   pub devices : devicesShown (markedState l) ≡ setupDevices l
   pub orders : ordersShown (markedState l) ≡ setupOrders
   pub peers : peersShown (markedState l) ≡ setupPeers
+  pub ids : idsShown (markedState l) ≡ setupIds l
   pub outstanding : outstandingOf (markedState l) ≡ 0
   pub counted : blocksOf (markedState l) ≡ length (l .blocks) / blockWords
   pub given : (i : ℕ) → i < length (l .blocks) / blockWords → blockAt (markedState l) i ≡ blockIn (l .blocks) 0 i
@@ -360,6 +365,7 @@ starts l e =
       devices = devices-shown-same (setupState l) (markedState l) (λ j lo hi. counts-frame (setupState l) 1 1 j (λ p q. omega arith)) (setup-devices l f) ∙ setup-shown l f;
       orders = orders-shown-same (setupState l) (markedState l) (λ j lo hi. counts-frame (setupState l) 1 1 j (λ p q. omega arith)) ∙ setup-ordered l f;
       peers = peers-shown-same (setupState l) (markedState l) (λ j lo hi. counts-frame (setupState l) 1 1 j (λ p q. omega arith)) ∙ setup-peers l f;
+      ids = ids-shown-same (setupState l) (markedState l) (λ j lo hi. counts-frame (setupState l) 1 1 j (λ p q. omega arith)) (setup-ids l f) ∙ setup-listed l f;
       outstanding = counts-frame (setupState l) 1 1 outstandingWord (λ p q. omega arith) ∙ high l f outstandingWord (omega arith) (omega arith);
       counted = marked-count l f;
       given = marked-block l f;

@@ -19,7 +19,7 @@ use Rattle.model.specs.Blocks.{Lists}
 use Rattle.model.specs.Journal.{Entry, eventOf, entryAt, entriesAt, entriesIn, servedBy, kindPeerData}
 use Rattle.model.specs.Messages.{DS-INV-HDL, DS-DATA, mostPayload, typeOf, payloadLength, nack}
 use Rattle.model.specs.Calls.{Call, act, drain, receive, Outcome, outcome, setUp}
-use Rattle.model.specs.Reading.{View, Stage, idle, offered, registered, viewOf, setupView, reading, devicesShown, setupDevices, readingDevices, ordersShown, setupOrders, readingOrders, Peer, noPeer, hasHandle, peerPlace, peersShown, setupPeers, readingPeers}
+use Rattle.model.specs.Reading.{View, Stage, idle, offered, registered, viewOf, setupView, reading, devicesShown, setupDevices, readingDevices, ordersShown, setupOrders, readingOrders, Peer, noPeer, hasHandle, peerPlace, peersShown, idsShown, setupIds, setupPeers, readingPeers}
 
 -- a call, and what it returned and left
 pub record Done : Type 0 where
@@ -152,6 +152,7 @@ pub record Demand3 (l : Lists) (s j : List ℕ) (ds : List Done) (u : Run) : Typ
   pub readsOrders : readingOrders setupOrders (entries u) ≡ ordersShown (u .state)
   -- 02, ticket 7: "demand 3 .. covers them in the same words, with the place of each one's id"
   pub readsPeers : readingPeers setupPeers (entries u) ≡ peersShown (u .state)
+  pub keepsIds : idsShown (u .state) ≡ setupIds l
   -- "In each accepted receive of the list ..": at each place of the same list, of what that receive itself returned and left
   pub delivers :
       (before later : List Done) (c handle : ℕ) (m out : List ℕ) (r : Outcome) →

@@ -1,4 +1,4 @@
--- "What the agent holds": the counts and limits of 01, the map of the state's words, and the changes of them. Each offset is computed from
+-- "What the agent holds": the counts and limits of 01 and 02, the map of the state's words, and the changes of them. Each offset is computed from
 -- the one before it: words that a state gains stand after the last of these.
 --
 --   channel c: 0 closed, 1 ready
@@ -23,7 +23,7 @@ use lib.Dec.{eqb}
 use Rattle.model.specs.Choice.{tabulate, halvings}
 use Rattle.model.specs.declared.Removal.{Removal}
 
--- The counts and limits of 01.
+-- The counts and limits of 01 and of 02's tickets.
 
 -- "Four channels (0 to 3)"
 abbrev pub channelCount : ℕ

@@ -82,7 +82,7 @@ fn is_refused(state: &State, channel: usize, handle: u64) -> bool
     MOST_PEERS <= peers::count(state, channel)
 }
 
-// svc_id: "the payload from byte 12 on", the message from byte 20 on.
+// svc_id: the payload from byte 12 on, the message from byte 20 on.
 fn id_of(message: &[u8]) -> &[u8]
     requires { ⌜ 20 ≤ length (now message) ⌝ }
     ensures { λ r. ⌜ now r ≡ regId (now (message .entry)) ⌝ }
