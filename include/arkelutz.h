@@ -3,12 +3,13 @@
  * target/sparc64/libarkelutz.a, which sparc/build writes.
  *
  * Every call checks all that it is given and is proved to do nothing undefined on any state words, lengths and numbers. What C must
- * see to: each pointer has as many elements as the length beside it says, state has ARKELUTZ_STATE_WORDS words, and no two things
- * that one call is lent overlap where one of them is written.
+ * see to: each pointer has as many elements as the length beside it says, state has ARKELUTZ_STATE_WORDS words, front_words
+ * ARKELUTZ_FRONT_WORDS words and front_bytes ARKELUTZ_FRONT_BYTES bytes, and no two things that one call is lent overlap where one of
+ * them is written.
  *
  * refusal is 0 where the call was accepted, else the number of document 01 (1 to 8); then nothing was written anywhere, but by
- * arkelutz_setup the state of empty lists, by arkelutz_work 0 to pages and by arkelutz_take 0 to delay.
- * Nothing is allocated or kept between calls: the state and the journal are the caller's.
+ * arkelutz_setup the state of empty lists, by arkelutz_work 0 to pages, by arkelutz_take 0 to delay and by arkelutz_piece 0 to given
+ * and to length. Nothing is allocated or kept between calls: the state, the journal and the front are the caller's.
  */
 #ifndef ARKELUTZ_H
 #define ARKELUTZ_H
@@ -21,8 +22,8 @@ extern "C" {
 #endif
 
 #define ARKELUTZ_STATE_WORDS 2045
-#define ARKELUTZ_JOURNAL_WORDS 128 /* every call but show asks for a journal of just this length */
-#define ARKELUTZ_OUTPUT_BYTES 2592 /* and, but for setup and drain, for an output of this length or more */
+#define ARKELUTZ_JOURNAL_WORDS 128 /* every call but show and reopen asks for a journal of just this length */
+#define ARKELUTZ_OUTPUT_BYTES 2592 /* and each of these but setup and drain for an output of this length or more */
 
 /*
  * A virtual device, as a device list has it: 36 words. The name is its bytes with their zero (1 to 256), eight to a word, the most significant first, so that
@@ -101,7 +102,7 @@ struct arkelutz_order {
 /*
  * Takes a block list, five words a block and at most 64 blocks, a device list, ARKELUTZ_DEVICE_WORDS words a device, and an id list, ARKELUTZ_ID_WORDS words an id,
  * writes the first state and, to the journal, entry number 1, the edition mark, and returns the refusal: 0, 1 or 7. A state that a refused setup wrote, or that is
- * all zeros, makes every call refuse with 8 until a setup is accepted.
+ * all zeros, makes every call but show refuse with 8 until a setup is accepted.
  */
 uint64_t arkelutz_setup(uint64_t *state, const uint64_t *blocks, size_t block_words, const uint64_t *devices,
                         size_t device_words, const uint64_t *ids, size_t id_words, uint64_t *journal,
@@ -139,6 +140,28 @@ struct arkelutz_drained arkelutz_drain(uint64_t *state, const uint64_t *journal,
 
 /* The length of the host's own part of a data message, which begins at byte 16; 0 if it is not for the host. */
 size_t arkelutz_show(const uint64_t *state, size_t channel, const uint8_t *message, size_t message_bytes);
+
+/*
+ * The front: a channel's stream in pieces. It is lent words and bytes of its own, all 0 at first, and keeps at most one unfinished message a channel.
+ */
+#define ARKELUTZ_FRONT_WORDS 8
+#define ARKELUTZ_FRONT_BYTES 16416
+
+struct arkelutz_pieced {
+    uint64_t refusal;
+    size_t taken; /* bytes: all, or those to the end of the one message that was given to the agent; offer the others next */
+};
+
+/*
+ * Takes a piece of any length. 1 is written to given where a message was given to the agent, else 0, and to length the reply's length. A refused piece has taken nothing;
+ * where the journal is full (4), drain and offer it again. After a message with a payload_len above 4,096, which closes the channel, pieces are taken and dropped until
+ * arkelutz_reopen, which empties the channel's front and returns the refusal: 0, 3 or 8.
+ */
+struct arkelutz_pieced arkelutz_piece(uint64_t *front_words, uint8_t *front_bytes, uint64_t *state, size_t channel,
+                                       const uint8_t *piece, size_t piece_bytes, uint64_t *journal,
+                                       size_t journal_words, uint8_t *out, size_t out_bytes, uint64_t *given,
+                                       size_t *length);
+uint64_t arkelutz_reopen(uint64_t *front_words, const uint8_t *front_bytes, const uint64_t *state, size_t channel);
 
 #ifdef __cplusplus
 }

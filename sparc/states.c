@@ -3,9 +3,10 @@
  *
  * A state is set up from random lists of blocks, devices and ids and brought on by messages; before a call some of its words may be replaced by
  * random ones. Each call writes a line with what it returned and a hash, which goes on from call to call, of every word of the state and the
- * journal, every byte of the output and every word of the run after it; each WORDS_EVERY calls the state's words follow. At the end stand the
+ * journal, every byte of the output and every word of the run after it, and after a call of the front of all words and bytes of that; each
+ * WORDS_EVERY calls the state's words follow. Before a call of the front some of its words or bytes may be replaced. At the end stand the
  * answers of each call by refusal number. It fails if a call was never accepted, an order of either kind never taken, no state was unsound, the
- * other end never had a service registered or ended, or show never had a part.
+ * other end never had a service registered or ended, show never had a part, or one of the counts of fronts is 0.
  */
 #include "arkelutz.h"
 
@@ -35,15 +36,20 @@
 #define RECORDS 64
 #define PAGE 8192
 #define SPARE 28 /* bytes of output past those that a call asks for */
-#define MESSAGE_BYTES 1088
+#define MESSAGE_BYTES 4112 /* more than the longest message */
+#define HEADER_BYTES 8
+#define MOST_PAYLOAD 4096
+#define ROOM_BYTES (HEADER_BYTES + MOST_PAYLOAD) /* a channel's room in the front's bytes */
+#define STREAM_BYTES (3 * MESSAGE_BYTES)
 #define CALLS_A_STATE 80
 #define CALLS_REFUSED 4 /* on the state that a refused setup gives */
 #define WORDS_EVERY 997
 #define REFUSALS 9
 #define UNSOUND 8
 
-enum call { SETUP, RECEIVE, OFFER, WITHDRAW, CLOSE, WORK, DRAIN, SHOW, PERMIT, TAKE, CALLS };
-static const char *const names[CALLS] = {"setup", "receive", "offer", "withdraw", "close", "work", "drain", "show", "permit", "take"};
+enum call { SETUP, RECEIVE, OFFER, WITHDRAW, CLOSE, WORK, DRAIN, SHOW, PERMIT, TAKE, PIECE, REOPEN, CALLS };
+static const char *const names[CALLS] = {"setup", "receive", "offer",  "withdraw", "close", "work",
+                                         "drain", "show",    "permit", "take",     "piece", "reopen"};
 
 static uint64_t state[ARKELUTZ_STATE_WORDS], journal[ARKELUTZ_JOURNAL_WORDS], run[ARKELUTZ_JOURNAL_WORDS];
 static uint8_t out[ARKELUTZ_OUTPUT_BYTES + SPARE], message[MESSAGE_BYTES];
@@ -54,8 +60,12 @@ static uint64_t devices[(DEVICES + 1) * DEVICE_WORDS + 1];
 static size_t device_words;
 static uint64_t ids[(IDS + 1) * ID_WORDS + 1];
 static size_t id_words;
+static uint64_t front_words[ARKELUTZ_FRONT_WORDS];
+static uint8_t front_bytes[ARKELUTZ_FRONT_BYTES], streams[CHANNELS][STREAM_BYTES];
+static size_t stream_bytes[CHANNELS]; /* what the other end has sent and the front has not taken */
 static uint64_t handles[CHANNELS][SERVICES], request;
 static uint64_t counts[CALLS][REFUSALS], taken[ORDERS], parts, registered, ended, done, seed, hash = 14695981039346656037u;
+static uint64_t given_whole, given_joined, over, dropped, full, unsound_fronts;
 
 static uint64_t any(void) /* splitmix64 */
 {
@@ -83,6 +93,12 @@ static void add_words(const uint64_t *words, size_t count)
         add(words[i]);
 }
 
+static void add_bytes(const uint8_t *bytes, size_t count)
+{
+    for (size_t i = 0; i < count; i++)
+        add(bytes[i]);
+}
+
 static void print_words(void)
 {
     for (size_t i = 0; i < ARKELUTZ_STATE_WORDS; i++)
@@ -99,8 +115,11 @@ static void told(enum call call, uint64_t refusal, uint64_t length, uint64_t pag
     add_words(state, ARKELUTZ_STATE_WORDS);
     add_words(journal, ARKELUTZ_JOURNAL_WORDS);
     add_words(run, ARKELUTZ_JOURNAL_WORDS);
-    for (size_t i = 0; i < sizeof out; i++)
-        add(out[i]);
+    add_bytes(out, sizeof out);
+    if (call == PIECE || call == REOPEN) {
+        add_words(front_words, ARKELUTZ_FRONT_WORDS);
+        add_bytes(front_bytes, sizeof front_bytes);
+    }
     if (refusal >= REFUSALS) {
         printf("%s: no such refusal: %" PRIu64 "\n", names[call], refusal);
         exit(1);
@@ -407,6 +426,8 @@ static int begin(void)
     for (size_t i = 0; i < ARKELUTZ_STATE_WORDS; i++)
         state[i] = any();
     request = below(3) ? below(100) : any();
+    memset(front_words, 0, sizeof front_words);
+    memset(stream_bytes, 0, sizeof stream_bytes);
     make_devices();
     make_ids();
     refusal = arkelutz_setup(state, list, list_words, devices, device_words, ids, id_words, journal, journal_words());
@@ -452,6 +473,115 @@ static void take(void)
         taken[o.order]++;
 }
 
+/* Adds a message to a channel's stream: most have the payload_len that they say, some are the longest, or have a payload_len above 4,096. */
+static void send(uint64_t channel)
+{
+    size_t bytes;
+
+    make_message(channel);
+    if (below(16) == 0) {
+        header(9, (uint32_t)(MOST_PAYLOAD + below(2)));
+        put(handle_of(channel, below(SERVICES)), 8);
+        while (message_bytes < ROOM_BYTES)
+            put(below(256), 1);
+    } else if (message_bytes >= HEADER_BYTES && below(20)) {
+        bytes = message_bytes;
+        message_bytes = HEADER_BYTES - 4;
+        put(bytes - HEADER_BYTES, 4);
+        message_bytes = bytes;
+    }
+    if (stream_bytes[channel] + message_bytes > STREAM_BYTES)
+        return;
+    memcpy(streams[channel] + stream_bytes[channel], message, message_bytes);
+    stream_bytes[channel] += message_bytes;
+}
+
+/* How many bytes of a stream are offered: few, those to any place, or all. */
+static size_t piece_length(uint64_t channel)
+{
+    size_t most = stream_bytes[channel], length = below(3) ? most : below(2) ? below(HEADER_BYTES + 1) : below(most + 1);
+
+    return length < most ? length : most;
+}
+
+/* Offers a piece of a channel's stream, which loses what is taken, and returns the refusal. */
+static uint64_t piece(uint64_t channel)
+{
+    uint64_t at = channel < CHANNELS ? channel : 0, kept = front_words[2 * at], mark = front_words[2 * at + 1], given = any();
+    size_t words = journal_words(), bytes = out_bytes(), length = any(), offered;
+    struct arkelutz_pieced o;
+
+    if (kept == 0 && below(4) == 0)
+        stream_bytes[at] = 0; /* it begins with a message again, whatever came before */
+    if (stream_bytes[at] == 0 || below(4) == 0)
+        send(at);
+    offered = piece_length(at);
+    o = arkelutz_piece(front_words, front_bytes, state, channel, streams[at], offered, journal, words, out, bytes, &given, &length);
+    add(given);
+    told(PIECE, o.refusal, length, o.taken);
+    full += o.refusal == 4;
+    if (o.refusal)
+        return o.refusal;
+    given_whole += given && kept == 0;
+    given_joined += given && kept > 0;
+    over += given && front_words[2 * at + 1] == 1;
+    dropped += mark == 1 && o.taken > 0;
+    stream_bytes[at] -= o.taken;
+    memmove(streams[at], streams[at] + o.taken, stream_bytes[at]);
+    return 0;
+}
+
+/* Reopens a channel's front, whose stream begins with a message again, and returns the refusal. */
+static uint64_t reopen(uint64_t channel)
+{
+    uint64_t refusal = arkelutz_reopen(front_words, front_bytes, state, channel);
+
+    told(REOPEN, refusal, 0, 0);
+    if (refusal == 0)
+        stream_bytes[channel] = 0;
+    return refusal;
+}
+
+/* Replaces a word of the front of a channel, the payload_len that it keeps, or both and how many bytes it keeps. */
+static void change_front(uint64_t channel)
+{
+    static const uint64_t kept[] = {0, 1, 7, 8, 9, 100, ROOM_BYTES - 1, ROOM_BYTES, ROOM_BYTES + 1};
+    uint64_t at = channel < CHANNELS && below(2) ? channel : below(CHANNELS), change = below(4);
+    uint64_t payload = below(2) ? MOST_PAYLOAD - 1 + below(3) : below(MOST_PAYLOAD);
+
+    if (change == 0)
+        front_words[2 * at + 1] = below(3) ? below(3) : sized();
+    if (change == 1)
+        front_words[2 * at] = below(4) ? kept[below(sizeof kept / sizeof *kept)] : sized();
+    if (change >= 2)
+        for (size_t i = 0; i < 4; i++)
+            front_bytes[at * ROOM_BYTES + 4 + i] = (uint8_t)(payload >> (24 - 8 * i));
+    if (change == 3) {
+        front_words[2 * at] = below(payload + HEADER_BYTES + 2);
+        front_words[2 * at + 1] = 0;
+    }
+}
+
+/* A piece or a reopening, now and then on a front that was changed. If one is unsound, front or state, the front comes back. */
+static void front_call(uint64_t channel)
+{
+    static const uint8_t no_bytes[ARKELUTZ_FRONT_BYTES];
+    uint64_t words[ARKELUTZ_FRONT_WORDS], no_words[ARKELUTZ_FRONT_WORDS] = {0};
+    uint8_t bytes[ARKELUTZ_FRONT_BYTES];
+    int drops = channel < CHANNELS && front_words[2 * channel + 1] != 0;
+
+    memcpy(words, front_words, sizeof words);
+    memcpy(bytes, front_bytes, sizeof bytes);
+    if (below(4) == 0)
+        change_front(channel);
+    if ((below(drops ? 2 : 10) ? piece(channel) : reopen(channel)) != UNSOUND)
+        return;
+    memcpy(front_words, words, sizeof words);
+    memcpy(front_bytes, bytes, sizeof bytes);
+    /* an empty front is sound, so that only the state can refuse its reopening */
+    unsound_fronts += arkelutz_reopen(no_words, no_bytes, state, 0) == 0;
+}
+
 static void one_call(void)
 {
     uint64_t channel = below(40) ? below(CHANNELS) : sized(), service = below(40) ? below(SERVICES) : sized(), pages = any();
@@ -459,7 +589,7 @@ static void one_call(void)
     struct arkelutz_answer a;
     struct arkelutz_drained d;
 
-    switch (below(19)) {
+    switch (below(23)) {
     case 0:
         offer(channel, service);
         break;
@@ -499,6 +629,12 @@ static void one_call(void)
         break;
     case 10:
         take();
+        break;
+    case 11:
+    case 12:
+    case 13:
+    case 14:
+        front_call(channel);
         break;
     default:
         make_message(channel);
@@ -564,5 +700,10 @@ int main(int argc, char **argv)
     printf("orders taken: shutdown %" PRIu64 ", panic %" PRIu64 "\n", taken[1], taken[2]);
     printf("peer registrations: %" PRIu64 " made, %" PRIu64 " ended\n", registered, ended);
     printf("parts of show that are not empty: %" PRIu64 "\n", parts);
-    return !(whole && unsound > 0 && taken[1] > 0 && taken[2] > 0 && registered > 0 && ended > 0 && parts > 0);
+    printf("messages given: %" PRIu64 " from a piece alone, %" PRIu64 " joined, %" PRIu64 " of them with a payload_len above 4,096\n",
+           given_whole, given_joined, over);
+    printf("pieces: %" PRIu64 " dropped, %" PRIu64 " refused by a full journal\n", dropped, full);
+    printf("unsound fronts before a sound state: %" PRIu64 "\n", unsound_fronts);
+    whole &= unsound > 0 && taken[1] > 0 && taken[2] > 0 && registered > 0 && ended > 0 && parts > 0;
+    return !(whole && given_whole > 0 && given_joined > 0 && over > 0 && dropped > 0 && full > 0 && unsound_fronts > 0);
 }

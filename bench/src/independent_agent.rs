@@ -7,6 +7,7 @@ pub struct Independent;
 
 impl Agent for Independent {
     type State = independent::State;
+    type Front = independent::Front;
 
     fn setup(
         blocks: &[u64],
@@ -68,5 +69,18 @@ impl Agent for Independent {
     #[inline(never)]
     fn drain(state: &mut Self::State, journal: &[u64], run: &mut [u64]) -> Result<usize, u64> {
         independent::drain(state, journal, run)
+    }
+
+    #[inline(never)]
+    fn piece(
+        front: &mut Self::Front,
+        state: &mut Self::State,
+        channel: u64,
+        bytes: &[u8],
+        journal: &mut [u64],
+        out: &mut [u8],
+    ) -> Result<(usize, bool), u64> {
+        let taken = independent::piece(front, state, channel, bytes, journal, out)?;
+        Ok((taken.bytes, taken.reply.is_some()))
     }
 }

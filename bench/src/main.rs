@@ -8,6 +8,7 @@ mod devices;
 mod independent_agent;
 mod orders;
 mod peers;
+mod pieces;
 mod proved_agent;
 
 use devices::Devices;
@@ -35,6 +36,7 @@ const OUTPUT: usize = 2_592;
 /// The calls that are timed, and those that lead to them.
 pub trait Agent {
     type State: Copy;
+    type Front: Default;
     fn setup(
         blocks: &[u64],
         devices: &[u64],
@@ -71,6 +73,16 @@ pub trait Agent {
     /// Takes the order; gives its delay.
     fn take(state: &mut Self::State, journal: &mut [u64], out: &mut [u8]) -> Result<u64, u64>;
     fn drain(state: &mut Self::State, journal: &[u64], run: &mut [u64]) -> Result<usize, u64>;
+    /// Offers a piece of a channel's stream; gives how many bytes were taken, and
+    /// whether a message was given to the agent.
+    fn piece(
+        front: &mut Self::Front,
+        state: &mut Self::State,
+        channel: u64,
+        bytes: &[u8],
+        journal: &mut [u64],
+        out: &mut [u8],
+    ) -> Result<(usize, bool), u64>;
 }
 
 /// A state and the journal and output that its calls are lent.
@@ -322,14 +334,22 @@ impl Case {
             "{}: the agents differ",
             self.name
         );
-        println!(
-            "{:<50} {:>10.1} {:>12.1} {:>8.2}",
-            self.name,
-            least,
-            least_theirs,
-            least / least_theirs
-        );
+        print_row(&self.name, least, least_theirs);
     }
+}
+
+fn print_head(name: &str) {
+    println!(
+        "{name:<50} {:>10} {:>12} {:>8}",
+        "proved", "independent", "ratio"
+    );
+}
+
+fn print_row(name: &str, ours: f64, theirs: f64) {
+    println!(
+        "{name:<50} {ours:>10.1} {theirs:>12.1} {:>8.2}",
+        ours / theirs
+    );
 }
 
 fn cases() -> Vec<Case> {
@@ -384,18 +404,8 @@ fn cases() -> Vec<Case> {
             Prepare::Removal,
             Calls::Work,
         ),
-        (
-            "soundness, blocks 16",
-            16,
-            Prepare::Nothing,
-            Calls::Refused,
-        ),
-        (
-            "soundness, blocks 64",
-            64,
-            Prepare::Nothing,
-            Calls::Refused,
-        ),
+        ("soundness, blocks 16", 16, Prepare::Nothing, Calls::Refused),
+        ("soundness, blocks 64", 64, Prepare::Nothing, Calls::Refused),
         ("drain of 1 entry", 16, Prepare::Full, Calls::DrainOne),
         ("drain of 64 entries", 16, Prepare::Full, Calls::DrainFull),
     ];
@@ -459,9 +469,7 @@ fn peer_cases() -> Vec<Case> {
 }
 
 fn main() {
-    println!(
-        "{:<50} {:>10} {:>12} {:>8}",
-        "ns a call", "proved", "independent", "ratio"
-    );
+    print_head("ns a call");
     cases().iter().for_each(Case::run);
+    pieces::run();
 }

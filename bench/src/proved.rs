@@ -2,6 +2,10 @@
 //! against crates/exports but the comparisons of results in this package.
 
 pub const STATE_WORDS: usize = 2_045;
+/// Two words a channel: how many bytes are kept, and 1 where bytes are dropped.
+pub const FRONT_WORDS: usize = 8;
+/// Room for a whole message a channel.
+pub const FRONT_BYTES: usize = 16_416;
 
 /// The agent's state.
 pub type Words = [u64; STATE_WORDS];
@@ -37,6 +41,36 @@ pub struct Taken {
     pub refusal: u64,
     pub order: u64,
     pub delay: u64,
+}
+
+/// What the front is lent beside the state.
+#[derive(Clone, PartialEq)]
+pub struct Front {
+    pub words: [u64; FRONT_WORDS],
+    pub bytes: [u8; FRONT_BYTES],
+}
+
+impl Default for Front {
+    fn default() -> Front {
+        Front {
+            words: [0; FRONT_WORDS],
+            bytes: [0; FRONT_BYTES],
+        }
+    }
+}
+
+#[repr(C)]
+struct Pieced {
+    refusal: u64,
+    taken: usize,
+}
+
+/// A piece's answer; `given` is 1 if a message was given to the agent.
+pub struct Piece {
+    pub refusal: u64,
+    pub taken: usize,
+    pub given: u64,
+    pub length: usize,
 }
 
 extern "C" {
@@ -126,6 +160,26 @@ extern "C" {
         message: *const u8,
         message_bytes: usize,
     ) -> usize;
+    fn arkelutz_piece(
+        front_words: *mut [u64; FRONT_WORDS],
+        front_bytes: *mut [u8; FRONT_BYTES],
+        state: *mut Words,
+        channel: usize,
+        piece: *const u8,
+        piece_bytes: usize,
+        journal: *mut u64,
+        journal_words: usize,
+        out: *mut u8,
+        out_bytes: usize,
+        given: *mut u64,
+        length: *mut usize,
+    ) -> Pieced;
+    fn arkelutz_reopen(
+        front_words: *mut [u64; FRONT_WORDS],
+        front_bytes: *const [u8; FRONT_BYTES],
+        state: *const Words,
+        channel: usize,
+    ) -> u64;
 }
 
 /// Writes the first state and the journal's mark; gives the refusal.
@@ -312,4 +366,46 @@ pub fn take(state: &mut Words, journal: &mut [u64], out: &mut [u8]) -> Taken {
 #[inline]
 pub fn show(state: &Words, channel: u64, message: &[u8]) -> usize {
     unsafe { arkelutz_show(state, channel as usize, message.as_ptr(), message.len()) }
+}
+
+/// Takes a piece of a channel's stream.
+#[inline]
+pub fn piece(
+    front: &mut Front,
+    state: &mut Words,
+    channel: u64,
+    piece: &[u8],
+    journal: &mut [u64],
+    out: &mut [u8],
+) -> Piece {
+    // the call writes both always; neither is ever so large
+    let (mut given, mut length) = (u64::MAX, usize::MAX);
+    let Pieced { refusal, taken } = unsafe {
+        arkelutz_piece(
+            &mut front.words,
+            &mut front.bytes,
+            state,
+            channel as usize,
+            piece.as_ptr(),
+            piece.len(),
+            journal.as_mut_ptr(),
+            journal.len(),
+            out.as_mut_ptr(),
+            out.len(),
+            &mut given,
+            &mut length,
+        )
+    };
+    Piece {
+        refusal,
+        taken,
+        given,
+        length,
+    }
+}
+
+/// Empties a channel's front; gives the refusal.
+#[inline]
+pub fn reopen(front: &mut Front, state: &Words, channel: u64) -> u64 {
+    unsafe { arkelutz_reopen(&mut front.words, &front.bytes, state, channel as usize) }
 }

@@ -1,7 +1,7 @@
 //! The proved agent as the benchmark calls it.
 
 use crate::Agent;
-use bench::proved::{self, Words, STATE_WORDS};
+use bench::proved::{self, Front, Words, STATE_WORDS};
 
 /// 0 is acceptance, any other number the refusal.
 fn outcome<T>(refusal: u64, value: T) -> Result<T, u64> {
@@ -15,6 +15,7 @@ pub struct Proved;
 
 impl Agent for Proved {
     type State = Words;
+    type Front = Front;
 
     fn setup(
         blocks: &[u64],
@@ -77,5 +78,17 @@ impl Agent for Proved {
     fn drain(state: &mut Self::State, journal: &[u64], run: &mut [u64]) -> Result<usize, u64> {
         let drained = proved::drain(state, journal, run);
         outcome(drained.refusal, drained.entries)
+    }
+
+    fn piece(
+        front: &mut Self::Front,
+        state: &mut Self::State,
+        channel: u64,
+        bytes: &[u8],
+        journal: &mut [u64],
+        out: &mut [u8],
+    ) -> Result<(usize, bool), u64> {
+        let piece = proved::piece(front, state, channel, bytes, journal, out);
+        outcome(piece.refusal, (piece.taken, piece.given != 0))
     }
 }

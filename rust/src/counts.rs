@@ -2,6 +2,7 @@
 
 mod blocks;
 mod devices;
+mod fronts;
 mod numbers;
 mod orders;
 mod peers;
@@ -88,6 +89,7 @@ fn must_reach() -> Vec<String> {
     let of_tickets = devices::MUST_REACH.into_iter().chain(orders::MUST_REACH);
     let of_tickets = of_tickets.chain(peers::MUST_REACH);
     let of_tickets = of_tickets.chain(blocks::MUST_REACH);
+    let of_tickets = of_tickets.chain(fronts::MUST_REACH);
     for (group, members) in MUST_REACH.into_iter().chain(of_tickets) {
         names.extend(
             members
@@ -198,12 +200,16 @@ impl Tally for Counts {
                 self.add("line bad".into());
                 let why = devices::line::bad(line).or_else(|| orders::line::bad(line));
                 let why = why.or_else(|| peers::line::bad(line));
+                let why = why.or_else(|| fronts::line::bad(line));
                 why.into_iter().for_each(|name| self.add(name));
                 if line.starts_with(b"setup") && self.replay.has_devices() {
                     self.add("device lines kept by a bad setup line".into());
                 }
                 if line.starts_with(b"setup") && self.replay.has_ids() {
                     self.add("peer lines kept by a bad setup line".into());
+                }
+                if line.starts_with(b"setup") && self.replay.has_front() {
+                    self.add("front kept by a bad setup line".into());
                 }
             }
         }
@@ -245,7 +251,16 @@ impl Counts {
             }
             (_, [_, "accepted", rest @ ..]) => {
                 self.add(format!("call {name} accepted"));
-                self.accepted(call, rest);
+                match (call, rest) {
+                    // It stands for the receive that it makes, if any.
+                    (Call::Piece(..), [_, "message", reply @ ..]) => {
+                        if let Some(made) = self.replay.made(call) {
+                            self.accepted(&made, reply);
+                        }
+                    }
+                    (Call::Piece(..), _) => {}
+                    _ => self.accepted(call, rest),
+                }
             }
             _ => self.add(format!("call {name} with an odd answer")),
         }

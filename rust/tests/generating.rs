@@ -393,6 +393,86 @@ fn counts_of_peers() {
     }
 }
 
+fn piece(bytes: &[u8]) -> String {
+    receive(bytes).replace("receive", "piece")
+}
+
+#[test]
+fn counts_of_fronts() {
+    let (init, over) = (build::init_req(1, 0), build::with_length(9, 4_097, &[7, 7]));
+    let mut list = "setup\npiece 0\npiece 4 00\nreopen 4\n".to_string();
+    list += &piece(&init[..3]);
+    list += "piece 0\nstate\nclose 0\n";
+    list += &piece(&init[3..]);
+    let two = [&init[..], &init, &init[..2]].concat();
+    list += &format!("{}{}", piece(&two), piece(&two[12..]));
+    list += &piece(&two[24..]);
+    list += "reopen 0\npiece\nreopen x\n";
+    list += &piece(&over[..7]);
+    list += &piece(&over[7..]);
+    list += &piece(&init);
+    list += "permit 3 0\nsetup x\nreopen 0\n";
+    list += &"permit 2 1\n".repeat(60);
+    list += &format!("{0}{0}drain 2\n{0}", piece(&init));
+    list += "output 9\npiece 9\nreopen 0\noutput 2592\npiece 0 00\nsetup 1\npiece 0\n";
+    for name in [
+        "piece of 0 bytes while empty",
+        "piece of 0 bytes while keeping",
+        "piece of 0 bytes refused 2",
+        "piece of 0 bytes refused 8",
+        "piece refused 2 before 3",
+        "piece kept 3",
+        "piece kept 2",
+        "piece kept 7",
+        "piece dropped an INIT_REQ",
+        "piece taken in part",
+        "piece left a whole message",
+        "piece left an unfinished message",
+        "piece left bytes to drop",
+        "rest of a piece offered as it was",
+        "rest of a piece not offered",
+        "message cut at byte 3",
+        "message cut at byte 7",
+        "message in pieces INIT_REQ",
+        "message in pieces with a payload_len above 4096",
+        "message of pieces 1",
+        "message of pieces 2",
+        "message given with a reply",
+        "message given without a reply",
+        "message payload_len 4097",
+        "dropping began on a ready channel",
+        "dropping began after 7 bytes kept",
+        "dropping began with bytes after it",
+        "reopened while dropping",
+        "reopened while empty",
+        "reopened while keeping 1 to 7 bytes",
+        "reopened with a short output",
+        "refused piece offered again while full",
+        "refused piece offered again after a drain of one entry",
+        "kept part stays after close",
+        "dropping stays after permit",
+        "front emptied of a kept part by a refused setup",
+        "front kept by a bad setup line",
+        "state shown with a kept part",
+        "piece line bad missing field",
+        "reopen line bad number",
+        "refused 8 after setup was refused 7 piece",
+        "DS sent INIT_ACK",
+        "DS received INIT_REQ good",
+        "DS received DATA bad",
+    ] {
+        assert_eq!(reached(&list, name), [name]);
+    }
+    for name in [
+        "message cut at byte 2",
+        "piece refused 1",
+        "refused piece offered again after a drain of more",
+        "message payload_len 4096",
+    ] {
+        assert_eq!(reached(&list, name), [""; 0]);
+    }
+}
+
 #[test]
 fn counts_of_made_states() {
     let mut counts = Counts::default();

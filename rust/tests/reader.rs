@@ -718,11 +718,11 @@ impl Follower {
     }
 
     /// The file is good and shows the state, except for its peers, devices,
-    /// orders and removal.
+    /// orders, removal and front.
     fn check(&mut self) {
         let state = self.call(&Call::State);
         let lines = state.split_inclusive('\n');
-        let hidden = ["peer", "device", "permission", "order", "removal"];
+        let hidden = ["peer", "device", "permission", "order", "removal", "front"];
         let shown = |line: &&str| !hidden.iter().any(|name| line.starts_with(name));
         let expected: String = lines.filter(shown).collect();
         assert_eq!(print(&file(&self.words, &self.entries)), expected);

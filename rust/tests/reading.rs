@@ -104,6 +104,15 @@ impl Reading {
     }
 }
 
+/// The receive that a piece makes, if it ends a message.
+fn made(host: &Host, call: &Call) -> Option<Call> {
+    let Call::Piece(channel, bytes) = call else {
+        return None;
+    };
+    let message = host.front.message(*channel, bytes)?;
+    Some(Call::Receive(*channel, message))
+}
+
 /// Reads along with the calls: after each, one entry more is known.
 struct Follower {
     host: Host,
@@ -115,6 +124,7 @@ struct Follower {
 impl Follower {
     fn call(&mut self, call: &Call) {
         let shown = (self.reading.channels, self.reading.peers);
+        let made = made(&self.host, call).unwrap_or(call.clone());
         let (devices, ids) = (self.host.devices.clone(), self.host.ids.clone());
         let mut answer = Vec::new();
         self.host.perform(call, &mut answer);
@@ -140,7 +150,7 @@ impl Follower {
             let [first, second] = self.host.entry(self.read);
             assert_eq!(first >> 32, self.read);
             self.reading.entry(first, second);
-            self.reached(call, first, &shown);
+            self.reached(&made, first, &shown);
         }
         assert_eq!(self.reading, Reading::of(state));
     }
@@ -181,6 +191,46 @@ fn reading_gives_back_the_state() {
         for line in generate(seed, calls).split(|byte| *byte == b'\n') {
             if let Line::Call(call) = Line::read(line) {
                 follower.call(&call);
+            }
+        }
+    }
+}
+
+/// A call of the front stands for the receive that it makes, if any: a host
+/// that is given these instead has the same answers, entries and state.
+#[test]
+fn a_front_call_stands_for_its_receive() {
+    for seed in 1..=30 {
+        let (mut fronted, mut plain) = (Host::default(), Host::default());
+        for line in generate(seed, 3_000).split(|byte| *byte == b'\n') {
+            let Line::Call(call) = Line::read(line) else {
+                continue;
+            };
+            let stands_for = match call {
+                Call::Piece(..) => made(&fronted, &call),
+                Call::Reopen(_) => None,
+                _ => Some(call.clone()),
+            };
+            let (last, mut answers) = (fronted.state.last, [Vec::new(), Vec::new()]);
+            fronted.perform(&call, &mut answers[0]);
+            match stands_for {
+                Some(made) => plain.perform(&made, &mut answers[1]),
+                None => assert_eq!(fronted.state.last, last),
+            }
+            let [answer, expected] = answers.map(|text| String::from_utf8(text).unwrap());
+            if let (Call::Piece(..), false) = (&call, expected.is_empty()) {
+                let reply = match answer.split_once(" message") {
+                    Some((_, reply)) => format!("receive accepted{reply}"),
+                    None => answer.replace("piece", "receive"),
+                };
+                assert_eq!(reply, expected);
+            } else if call != Call::State && !expected.is_empty() {
+                assert_eq!(answer, expected);
+            }
+            assert_eq!(fronted.state, plain.state);
+            if fronted.state.last > 0 {
+                let number = fronted.state.last;
+                assert_eq!(fronted.entry(number), plain.entry(number));
             }
         }
     }

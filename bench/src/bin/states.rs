@@ -3,18 +3,18 @@
 //! 1 on the first difference, and if a call never had an answer that it can
 //! have.
 
-use bench::proved::Words;
-use bench::states::agents::{answer, call_independent, call_proved, Answer};
+use bench::proved::{self, Words};
+use bench::states::agents::{answer, call_independent, call_proved, Answer, Form, Ours, Theirs};
 use bench::states::call::{Call, Lent};
 use bench::states::change::change;
 use bench::states::counts::Counts;
-use bench::states::make;
 use bench::states::spoil::spoil;
 use bench::states::words::{devices_after, devices_in, fill_free, meant, words_of};
 use bench::states::words::{orders_after, orders_in};
+use bench::states::{fronts, make};
 use independent::device::DEVICE_WORDS;
 use independent::generate::random::Random;
-use independent::State;
+use independent::{Front, State};
 use std::fmt::Debug;
 use std::panic::{catch_unwind, AssertUnwindSafe};
 use std::process::ExitCode;
@@ -25,14 +25,17 @@ struct Case {
     words: Words,
     /// What in the words has a value that the other form does not have.
     spoilt: Option<&'static str>,
+    front: proved::Front,
+    /// The front in the other form, if it has one.
+    other_front: Option<Front>,
     call: Call,
     lent: Lent,
 }
 
 /// A call's answer and what it left.
-struct Outcome<S> {
+struct Outcome<F> {
     answer: Answer,
-    state: S,
+    form: F,
     lent: Lent,
 }
 
@@ -50,30 +53,37 @@ impl Case {
             let shift = random.below(64);
             fill_free(&mut words, || random.next() >> shift);
         }
+        let mut front = proved::Front::default();
         Case {
             spoilt: spoil(random, &mut words),
             words,
-            call: Call::random(random, &state),
+            call: Call::random(random, &state, &mut front),
             lent: Lent::random(random, &state),
             state,
+            other_front: fronts::form_of(&front),
+            front,
         }
     }
 
-    /// The call on one agent's form of the state.
-    fn run<S>(&self, mut state: S, call: fn(&mut S, &Call, &mut Lent) -> Answer) -> Outcome<S> {
+    /// The call on one agent's form.
+    fn run<F>(&self, mut form: F, call: fn(&mut F, &Call, &mut Lent) -> Answer) -> Outcome<F> {
         let mut lent = self.lent.clone();
         Outcome {
-            answer: call(&mut state, &self.call, &mut lent),
-            state,
+            answer: call(&mut form, &self.call, &mut lent),
+            form,
             lent,
         }
     }
 
     /// What the independent agent does; for words that it cannot have, what 01
     /// says of a state that is not sound.
-    fn expected(&self) -> Outcome<State> {
+    fn expected(&self) -> Outcome<Theirs> {
+        let form = Form {
+            state: self.state,
+            front: self.other_front.clone().unwrap_or_default(),
+        };
         if !self.is_beyond() {
-            return self.run(self.state, call_independent);
+            return self.run(form, call_independent);
         }
         let refusal = match self.call {
             Call::Show(..) => 0,
@@ -81,7 +91,7 @@ impl Case {
         };
         Outcome {
             answer: answer(refusal, 0, 0),
-            state: self.state,
+            form,
             lent: self.lent.clone(),
         }
     }
@@ -92,7 +102,8 @@ impl Case {
 
     /// Whether the call is given words that the independent agent cannot have.
     fn is_beyond(&self) -> bool {
-        self.spoilt.is_some() && !self.is_setup()
+        let front = self.call.is_of_front() && self.other_front.is_none();
+        front || self.spoilt.is_some() && !self.is_setup()
     }
 
     /// Whether the words after the call are those of the other state, and of
@@ -115,13 +126,22 @@ impl Case {
         exact && meant(*ours) == meant(words_of(theirs))
     }
 
+    /// Whether the front after the call is the other one: its words, and its bytes
+    /// that are kept. Only a piece may touch any byte.
+    fn fronts_agree(&self, ours: &proved::Front, theirs: &Front) -> bool {
+        let untouched = matches!(self.call, Call::Piece(..)) || ours.bytes == self.front.bytes;
+        untouched && (self.is_beyond() || fronts::form_of(ours).as_ref() == Some(theirs))
+    }
+
     /// What differs between the two, or from what 01 says of refusals; none if
     /// nothing does. A refused call other than setup must leave
-    /// all words as they were; after an accepted one those without a meaning
-    /// count as 0, but for devices and orders.
-    fn difference(&self, ours: &Outcome<Words>, theirs: &Outcome<State>) -> Option<&'static str> {
+    /// all words as they were, and all bytes of the front; after an accepted one
+    /// words without a meaning count as 0, but for devices and orders, and bytes
+    /// after those kept are free.
+    fn difference(&self, ours: &Outcome<Ours>, theirs: &Outcome<Theirs>) -> Option<&'static str> {
         let kept = ours.answer.refusal != 0 && !self.is_setup();
-        let given = (&self.words, &self.state, &self.lent);
+        let given = (&self.words, &self.front, &self.state, &self.lent);
+        let (form, other) = (&ours.form, &theirs.form);
         let tests = [
             (ours.answer == theirs.answer, "the answers differ"),
             (
@@ -131,11 +151,15 @@ impl Case {
             (ours.lent.output == theirs.lent.output, "the outputs differ"),
             (ours.lent.run == theirs.lent.run, "the runs differ"),
             (
-                self.states_agree(&ours.state, &theirs.state),
+                self.states_agree(&form.state, &other.state),
                 "the states differ",
             ),
             (
-                !kept || given == (&ours.state, &theirs.state, &ours.lent),
+                self.fronts_agree(&form.front, &other.front),
+                "the fronts differ",
+            ),
+            (
+                !kept || given == (&form.state, &form.front, &other.state, &ours.lent),
                 "a refused call changed something",
             ),
         ];
@@ -146,6 +170,7 @@ impl Case {
     fn print(&self) {
         println!("state {:?}", self.state);
         println!("words {:?}", self.words);
+        println!("front {:?} {:?}", self.front.words, self.other_front);
         println!("call {:?}", self.call);
         println!(
             "journal of {} words, output of {} bytes, run of {} words",
@@ -155,17 +180,28 @@ impl Case {
 
     /// Compares the agents; none, after a report, if they differ.
     fn compare(&self) -> Option<(Answer, Lent)> {
-        let ours = self.run(self.words, call_proved);
+        let form = Form {
+            state: self.words,
+            front: self.front.clone(),
+        };
+        let ours = self.run(form, call_proved);
         let theirs = self.expected();
         let Some(name) = self.difference(&ours, &theirs) else {
             return Some((ours.answer, ours.lent));
         };
         println!("{name}");
         self.print();
-        println!("proved {:?} {:?}", ours.answer, ours.state);
-        println!("independent {:?} {:?}", theirs.answer, theirs.state);
-        let words = words_of(&theirs.state);
-        print_unlike("state word", &meant(ours.state), &meant(words));
+        let (form, other) = (&ours.form, &theirs.form);
+        println!("proved {:?} {:?}", ours.answer, form.state);
+        println!("independent {:?} {:?}", theirs.answer, other.state);
+        let words = words_of(&other.state);
+        print_unlike("state word", &meant(form.state), &meant(words));
+        println!(
+            "fronts: proved {:?} {:?}, independent {:?}",
+            form.front.words,
+            fronts::form_of(&form.front),
+            other.front
+        );
         print_unlike("journal word", &ours.lent.journal, &theirs.lent.journal);
         print_unlike("output byte", &ours.lent.output, &theirs.lent.output);
         print_unlike("run word", &ours.lent.run, &theirs.lent.run);
@@ -187,7 +223,7 @@ fn print_unlike<T: Debug + PartialEq>(name: &str, ours: &[T], theirs: &[T]) {
 fn check(case: &Case, counts: &mut Counts) -> bool {
     let checked = catch_unwind(AssertUnwindSafe(|| {
         let answer = case.compare();
-        let given = (&case.state, case.spoilt);
+        let given = (&case.state, case.spoilt, &case.front);
         answer.map(|(answer, lent)| counts.add(given, &case.call, answer, &lent))
     }));
     if checked.is_err() {

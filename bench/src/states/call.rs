@@ -1,6 +1,7 @@
 //! A call and what it is lent.
 
-use super::{lists, make, message};
+use super::{fronts, lists, make, message};
+use crate::proved::Front;
 use independent::generate::random::Random;
 use independent::state::{JOURNAL_WORDS, OUTPUT_BYTES};
 use independent::State;
@@ -19,11 +20,13 @@ pub enum Call {
     /// Any number but 0 permits.
     Permit(u64, u64),
     Take,
+    Piece(u64, Vec<u8>),
+    Reopen(u64),
 }
 
 /// The calls by name, and the refusal numbers that each can have; 0 is
 /// acceptance.
-pub const CALLS: [(&str, &[usize]); 10] = [
+pub const CALLS: [(&str, &[usize]); 12] = [
     ("receive", &[0, 1, 2, 3, 4, 5, 8]),
     ("offer", &[0, 1, 2, 3, 4, 5, 6, 8]),
     ("withdraw", &[0, 1, 2, 3, 4, 5, 6, 8]),
@@ -34,6 +37,8 @@ pub const CALLS: [(&str, &[usize]); 10] = [
     ("setup", &[0, 1, 7]),
     ("permit", &[0, 1, 2, 3, 4, 5, 8]),
     ("take", &[0, 1, 2, 4, 5, 6, 8]),
+    ("piece", &[0, 1, 2, 3, 4, 5, 8]),
+    ("reopen", &[0, 3, 8]),
 ];
 
 impl Call {
@@ -50,11 +55,37 @@ impl Call {
             Call::Setup(..) => 7,
             Call::Permit(..) => 8,
             Call::Take => 9,
+            Call::Piece(..) => 10,
+            Call::Reopen(..) => 11,
         }
     }
 
-    /// A random call for a state.
-    pub fn random(random: &mut Random, state: &State) -> Call {
+    /// Whether it is a call of the front.
+    pub fn is_of_front(&self) -> bool {
+        matches!(self, Call::Piece(..) | Call::Reopen(..))
+    }
+
+    /// A random call for a state, most of the time of the agent; else of the
+    /// front, which is made for it.
+    pub fn random(random: &mut Random, state: &State, front: &mut Front) -> Call {
+        match random.once_in(6) {
+            true => Call::of_front(random, state, front),
+            false => Call::of_agent(random, state),
+        }
+    }
+
+    fn of_front(random: &mut Random, state: &State, front: &mut Front) -> Call {
+        let channel = place(random);
+        if random.once_in(4) {
+            fronts::before_reopen(random, front, state, channel);
+            return Call::Reopen(channel);
+        }
+        let service = random.below(4) as usize;
+        let channel = channel_of(random, state, service).unwrap_or(channel);
+        Call::Piece(channel, fronts::piece(random, front, state, channel))
+    }
+
+    fn of_agent(random: &mut Random, state: &State) -> Call {
         let channel = place(random);
         let service = place(random);
         match random.below(39) {

@@ -3,7 +3,9 @@
 use super::agents::Answer;
 use super::call::{Call, Lent, CALLS};
 use super::defects::{defect, DEFECTS};
+use super::front_counts::FrontCounts;
 use super::spoil::SPOILT;
+use crate::proved;
 use independent::block::BLOCK_WORDS;
 use independent::device::service::REPLY_BYTES;
 use independent::entry::{slot_word, COUNT, KIND};
@@ -96,10 +98,12 @@ pub struct Counts {
     peers: [u64; PEERS.len()],
     /// What was about 17 to 64 blocks and records.
     more: [u64; MORE.len()],
+    /// What was about fronts.
+    fronts: FrontCounts,
 }
 
-/// A state, and what is spoilt in its words.
-type Given<'a> = (&'a State, Option<&'static str>);
+/// A state, what is spoilt in its words, and a front.
+type Given<'a> = (&'a State, Option<&'static str>, &'a proved::Front);
 
 /// The place of a name in a list.
 fn place(list: &[&str], name: Option<&str>) -> Option<usize> {
@@ -141,9 +145,12 @@ fn of_peer(state: &State, call: &Call, answer: Answer, lent: &Lent) -> Option<us
 impl Counts {
     /// Counts a call on a state, with what is spoilt in its words.
     pub fn add(&mut self, given: Given, call: &Call, answer: Answer, lent: &Lent) {
-        let (state, spoilt) = given;
+        let (state, spoilt, front) = given;
         match state.is_sound() && spoilt.is_none() {
-            true => self.sound += 1,
+            true => {
+                self.sound += 1;
+                self.fronts.add(state, front, call, answer);
+            }
             false => self.unsound += 1,
         }
         if let Some(defect) = defect(state) {
@@ -213,6 +220,7 @@ impl Counts {
         for (name, count) in MORE.iter().zip(self.more) {
             println!("{name}: {count}");
         }
+        self.fronts.print();
     }
 
     /// The states that a defect makes unsound.
@@ -228,11 +236,11 @@ impl Counts {
         let results = [&self.results[..], &self.replies, &self.taken].concat();
         let others = [&self.peers[..], &self.more].concat();
         let all = [defects, results, others].concat();
-        let mut whole = !all.contains(&0);
+        let mut whole = !all.contains(&0) && self.fronts.are_whole();
         if !whole {
             println!(
-                "a defect, a result of a request, an order, something of the peer or of many \
-                 blocks never came"
+                "a defect, a result of a request, an order, something of the peer, of many \
+                 blocks or of fronts never came"
             );
         }
         for ((name, possible), answers) in CALLS.iter().zip(&self.answers) {

@@ -3,6 +3,7 @@
 use super::{devices, make, orders, peers};
 use independent::generate::random::Random;
 use independent::state::{State, TOP_BIT};
+use independent::wire::{HEADER, MAX_PAYLOAD};
 use independent::{build, memory, wire, Service};
 
 /// A message of any type for `channel`.
@@ -85,6 +86,33 @@ pub fn for_show(random: &mut Random, state: &State, channel: u64) -> Vec<u8> {
     let mut message = data(random, handle);
     if random.once_in(12) {
         spoil(random, &mut message);
+    }
+    message
+}
+
+/// A message for `channel` as a stream carries it: payload_len tells where it
+/// ends, and of one with a payload_len above 4,096 there is the header alone.
+pub fn of_stream(random: &mut Random, state: &State, channel: u64) -> Vec<u8> {
+    let mut message = match random.below(16) {
+        0 => {
+            let handle = handle(random, state, channel);
+            build::data(handle, &random.bytes(4_088))
+        }
+        1 => {
+            let over = random.pick(&[4_097, 4_097, 4_097, 4_098, 1 << 16, u32::MAX]);
+            return build::with_length(random.pick(&[wire::INIT_REQ, wire::DATA]), over, &[]);
+        }
+        2 => build::ds(random.pick(&[0, 3, 9, 11, u32::MAX]), &[]),
+        3 | 4 => for_device(random, state, channel),
+        5 | 6 => for_order(random, state, channel, 2),
+        7..=9 => for_peer(random, state, channel),
+        _ => any(random, state, channel),
+    };
+    message.resize(message.len().max(HEADER), 0);
+    let payload_len = message.len() - HEADER;
+    message[4..HEADER].copy_from_slice(&(payload_len as u32).to_be_bytes());
+    if payload_len > MAX_PAYLOAD {
+        message.truncate(HEADER);
     }
     message
 }

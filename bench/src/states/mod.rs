@@ -6,6 +6,8 @@ pub mod change;
 pub mod counts;
 pub mod defects;
 pub mod devices;
+mod front_counts;
+pub mod fronts;
 mod lists;
 pub mod make;
 mod message;

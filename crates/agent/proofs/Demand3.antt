@@ -92,7 +92,7 @@ pub data CalledAll : Run → List Done → Type 1 where
   none : {u : Run} → CalledAll u []
   next : {u : Run} (d : Done) {ds : List Done} → Called (u .state) (u .journal) (d .call) (d .gave) → CalledAll (after u d) ds → CalledAll u (d ∷ ds)
 
-meets : {s j : List ℕ} {c : Call} {r : Outcome} → Called s j c r → Meets s j c r
+pub meets : {s j : List ℕ} {c : Call} {r : Outcome} → Called s j c r → Meets s j c r
 meets (received κs a r e p s j) = answers (rw (s, j) at p)
 meets (offered κs a r e p s j) = answers (rw (s, j) at p)
 meets (withdrawn κs a r e p s j) = answers (rw (s, j) at p)

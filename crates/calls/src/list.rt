@@ -7,6 +7,10 @@ use crate::given::GIVEN_WORDS;
 use crate::given::Given;
 use crate::parsed;
 use crate::parsed::Numbers;
+use front_model::FRONT_BYTES;
+use front_model::FRONT_WORDS;
+use front_model::FrontBytes;
+use front_model::FrontWords;
 use libc::STDERR_FILENO;
 use libc::STDIN_FILENO;
 use lines::fields;
@@ -42,11 +46,10 @@ struct Place {
     output: usize,
 }
 
-// Makes the call of a name; of any other name none.
-fn call(
+// Makes a call of the agent that adds an entry, or drains; of any other name none.
+fn agent_call(
     name: &[u8],
     rest: &[u8],
-    given: &mut Given,
     state: &mut State,
     journal: &mut [u64],
     out: &mut [u8],
@@ -77,11 +80,53 @@ fn call(
     if fields::same(name, b"take") {
         return parsed::take(rest, state, journal, out, text, used);
     }
+    false
+}
+
+// A setup, with the devices and ids given since the one before; it empties the fronts.
+fn set_up(
+    rest: &[u8],
+    given: &mut Given,
+    words: &mut FrontWords,
+    state: &mut State,
+    journal: &mut [u64],
+    text: &mut Text,
+    used: &mut usize,
+) -> bool {
+    let devices = given::words_of(given);
+    let ids = given::id_words_of(given);
+    if !parsed::setup(rest, given, devices, ids, state, journal, text, used) {
+        return false;
+    }
+    given::empty(given);
+    *words = [0u64; FRONT_WORDS];
+    true
+}
+
+// Makes the call of a name; of any other name none.
+fn call(
+    name: &[u8],
+    rest: &[u8],
+    given: &mut Given,
+    words: &mut FrontWords,
+    bytes: &mut FrontBytes,
+    state: &mut State,
+    journal: &mut [u64],
+    out: &mut [u8],
+    text: &mut Text,
+    used: &mut usize,
+) -> bool {
+    if fields::same(name, b"piece") {
+        return parsed::piece(rest, words, bytes, state, journal, out, text, used);
+    }
+    if fields::same(name, b"reopen") {
+        return parsed::reopen(rest, words, bytes, state, text, used);
+    }
     if fields::same(name, b"show") {
         return parsed::show(rest, state, text, used);
     }
     if fields::same(name, b"state") {
-        return parsed::state(rest, state, text, used);
+        return parsed::state(rest, words, state, text, used);
     }
     if fields::same(name, b"device") {
         return parsed::device(rest, given);
@@ -90,15 +135,9 @@ fn call(
         return parsed::peer(rest, given);
     }
     if fields::same(name, b"setup") {
-        let devices = given::words_of(given);
-        let ids = given::id_words_of(given);
-        if !parsed::setup(rest, given, devices, ids, state, journal, text, used) {
-            return false;
-        }
-        given::empty(given);
-        return true;
+        return set_up(rest, given, words, state, journal, text, used);
     }
-    false
+    agent_call(name, rest, state, journal, out, text, used)
 }
 
 // The one number of a line, from 0 to `most`.
@@ -117,6 +156,8 @@ fn answer(
     line: &[u8],
     place: Place,
     given: &mut Given,
+    words: &mut FrontWords,
+    bytes: &mut FrontBytes,
     state: &mut State,
     journal: &mut [u64],
     text: &mut Text,
@@ -139,15 +180,17 @@ fn answer(
         }
     }
     let mut out = [0u8; MOST_OUTPUT];
-    let bytes = bytes_within(place.output, &out);
-    let words = words_within(place.journal, journal);
+    let out_bytes = bytes_within(place.output, &out);
+    let journal_words = words_within(place.journal, journal);
     if !call(
         name,
         rest,
         given,
+        words,
+        bytes,
         state,
-        &mut journal[..words],
-        &mut out[..bytes],
+        &mut journal[..journal_words],
+        &mut out[..out_bytes],
         text,
         used,
     ) {
@@ -161,6 +204,8 @@ fn answer_line(
     line: &[u8],
     place: Place,
     given: &mut Given,
+    words: &mut FrontWords,
+    bytes: &mut FrontBytes,
     state: &mut State,
     journal: &mut Journal,
     text: &mut Text,
@@ -177,7 +222,17 @@ fn answer_line(
     if fields::is_blank(&line[..end]) {
         return place;
     }
-    answer(&line[..end], place, given, state, journal, text, used)
+    answer(
+        &line[..end],
+        place,
+        given,
+        words,
+        bytes,
+        state,
+        journal,
+        text,
+        used,
+    )
 }
 
 // A line has ended: it counts, and the next one begins.
@@ -185,6 +240,8 @@ fn end_line(
     place: Place,
     line: &LineBytes,
     given: &mut Given,
+    words: &mut FrontWords,
+    bytes: &mut FrontBytes,
     state: &mut State,
     journal: &mut Journal,
     text: &mut Text,
@@ -192,7 +249,17 @@ fn end_line(
 ) -> Place {
     let mut counted = place;
     counted.lines = std::num::wrapping_add_u64(place.lines, 1);
-    let mut next = answer_line(line, counted, given, state, journal, text, used);
+    let mut next = answer_line(
+        line,
+        counted,
+        given,
+        words,
+        bytes,
+        state,
+        journal,
+        text,
+        used,
+    );
     next.length = 0;
     next
 }
@@ -203,13 +270,15 @@ fn take_byte(
     place: Place,
     line: &mut LineBytes,
     given: &mut Given,
+    words: &mut FrontWords,
+    bytes: &mut FrontBytes,
     state: &mut State,
     journal: &mut Journal,
     text: &mut Text,
     used: &mut usize,
 ) -> Place {
     if b == b'\n' {
-        return end_line(place, line, given, state, journal, text, used);
+        return end_line(place, line, given, words, bytes, state, journal, text, used);
     }
     let at = place.length;
     let mut next = place;
@@ -227,6 +296,8 @@ fn take_piece(
     place: Place,
     line: &mut LineBytes,
     given: &mut Given,
+    words: &mut FrontWords,
+    bytes: &mut FrontBytes,
     state: &mut State,
     journal: &mut Journal,
     text: &mut Text,
@@ -235,7 +306,18 @@ fn take_piece(
     let mut next = place;
     let mut i: usize = 0;
     while i < piece.len() {
-        next = take_byte(piece[i], next, line, given, state, journal, text, used);
+        next = take_byte(
+            piece[i],
+            next,
+            line,
+            given,
+            words,
+            bytes,
+            state,
+            journal,
+            text,
+            used,
+        );
         i += 1;
     }
     next
@@ -259,6 +341,8 @@ pub fn run() {
     let mut line = [0u8; LONGEST];
     let mut journal = [0u64; MOST_JOURNAL];
     let mut given = [0u64; GIVEN_WORDS];
+    let mut words = [0u64; FRONT_WORDS];
+    let mut bytes = [0u8; FRONT_BYTES];
     let mut state = [0u64; STATE_WORDS];
     let mut used: usize = 0;
     let mut place = Place {
@@ -278,6 +362,8 @@ pub fn run() {
             place,
             &mut line,
             &mut given,
+            &mut words,
+            &mut bytes,
             &mut state,
             &mut journal,
             &mut text,
@@ -290,6 +376,8 @@ pub fn run() {
         place,
         &line,
         &mut given,
+        &mut words,
+        &mut bytes,
         &mut state,
         &mut journal,
         &mut text,

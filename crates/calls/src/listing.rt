@@ -1,6 +1,7 @@
-// What a state holds, as text: channels with their live services and the peer's, blocks, devices, permissions, the order, the removal, the last entry number.
+// What a state holds, as text: channels with their live services and the peer's, blocks, devices, permissions, the order, the removal, what the front has, the last entry number.
 ghost use Prim.Native.Nat.{_≤_, _<_};
 use crate::answers;
+use front_model::FrontWords;
 use lines::output;
 use lines::output::Text;
 use model::CHANNEL_COUNT;
@@ -173,12 +174,41 @@ fn put_removal(text: &mut Text, used: &mut usize, state: &State) {
     output::put_byte(text, used, b'\n');
 }
 
-pub(crate) fn put_state(text: &mut Text, used: &mut usize, state: &State) {
+// What the front of a channel has, if it has anything.
+fn put_front(text: &mut Text, used: &mut usize, words: &FrontWords, channel: usize)
+    requires { ⌜ channel < channelCount ⌝ }
+{
+    let kept = front_model::kept_of(words, channel);
+    let dropping = front_model::dropping_of(words, channel) != 0;
+    if (kept == 0) & !dropping {
+        return;
+    }
+    output::put(text, used, b"front");
+    output::put_decimal(text, used, channel as u64);
+    if dropping {
+        output::put(text, used, b" dropping\n");
+        return;
+    }
+    output::put(text, used, b" kept");
+    output::put_decimal(text, used, kept);
+    output::put_byte(text, used, b'\n');
+}
+
+fn put_fronts(text: &mut Text, used: &mut usize, words: &FrontWords) {
+    let mut c: usize = 0;
+    while c < CHANNEL_COUNT {
+        put_front(text, used, words, c);
+        c += 1;
+    }
+}
+
+pub(crate) fn put_state(text: &mut Text, used: &mut usize, words: &FrontWords, state: &State) {
     put_channels(text, used, state);
     put_blocks(text, used, state);
     put_devices(text, used, state);
     put_orders(text, used, state);
     put_removal(text, used, state);
+    put_fronts(text, used, words);
     output::put(text, used, b"entries");
     output::put_decimal(text, used, state::last_of(state));
     output::put_byte(text, used, b'\n');

@@ -6,6 +6,8 @@ use crate::given;
 use crate::given::FIRST_GIVEN_ID;
 use crate::given::Given;
 use crate::listing;
+use front_model::FrontBytes;
+use front_model::FrontWords;
 use lines::fields;
 use lines::fields::Number;
 use lines::fields::Read;
@@ -288,10 +290,60 @@ pub(crate) fn drain(
     true
 }
 
-pub(crate) fn state(rest: &[u8], state: &State, text: &mut Text, used: &mut usize) -> bool {
+pub(crate) fn piece(
+    rest: &[u8],
+    words: &mut FrontWords,
+    bytes: &mut FrontBytes,
+    state: &mut State,
+    journal: &mut [u64],
+    out: &mut [u8],
+    text: &mut Text,
+    used: &mut usize,
+) -> bool {
+    let mut piece = [0u8; MOST];
+    let Numbers::Are(channel, count) = channel_and_bytes(rest, &mut piece) else {
+        return false;
+    };
+    let end = bytes_within(count as usize, &piece);
+    let a = front::piece(
+        words,
+        bytes,
+        state,
+        channel as usize,
+        &piece[..end],
+        journal,
+        out,
+    );
+    answers::pieced(text, used, a, out);
+    true
+}
+
+pub(crate) fn reopen(
+    rest: &[u8],
+    words: &mut FrontWords,
+    bytes: &FrontBytes,
+    state: &State,
+    text: &mut Text,
+    used: &mut usize,
+) -> bool {
+    let Numbers::Are(channel, _) = exactly(1, rest) else {
+        return false;
+    };
+    let refusal = front::reopen(words, bytes, state, channel as usize);
+    answers::reopened(text, used, refusal);
+    true
+}
+
+pub(crate) fn state(
+    rest: &[u8],
+    words: &FrontWords,
+    state: &State,
+    text: &mut Text,
+    used: &mut usize,
+) -> bool {
     if rest.len() != 0 {
         return false;
     }
-    listing::put_state(text, used, state);
+    listing::put_state(text, used, words, state);
     true
 }

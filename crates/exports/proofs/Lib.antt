@@ -1,2 +1,3 @@
 -- The proofs of the calls for C.
 mod Part
+mod Given

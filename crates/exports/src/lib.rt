@@ -1,5 +1,7 @@
-// The public calls under names for C and Rust to link: each is the agent's own call, with its contract. None returns more than two words, which every
+// The public calls under names for C and Rust to link: each is the agent's own call, or the front's, with its contract. None returns more than two words, which every
 // 64-bit calling convention returns alike: what is longer is written to what the caller lends.
+use front_model::FrontBytes;
+use front_model::FrontWords;
 use model::Answer;
 use model::Drained;
 use model::State;
@@ -15,9 +17,11 @@ ghost use Rattle.model.specs.Contracts.{
   DrainPost,
 };
 ghost use Rattle.model.specs.Layout.{dataHeaderBytes, isSet};
+ghost use Rattle.front_model.specs.Contracts.{PiecePost, ReopenPost};
 ghost use Rattle.model.specs.Calls.{shown};
 ghost use lib.ListN.{length, take, drop};
 ghost use mathlib.Core.Path.{_≡_};
+ghost use Prim.Native.Nat.{_≤_};
 
 // The state is written: that of the lists with the edition mark as its one entry, or, where 1 or 7 is returned, that of empty lists.
 #[no_mangle]
@@ -160,4 +164,53 @@ pub extern "C" fn arkelutz_show(state: &State, channel: usize, message: &[u8]) -
 {
     let part = agent::show(state, channel, message);
     part.len()
+}
+
+// The answer to a piece: the refusal, and how many bytes were taken.
+#[repr(C)]
+pub struct Pieced {
+    pub refusal: u64,
+    pub taken: usize,
+}
+
+// 1 is written to given where a message was given to the agent, else 0; to length the reply's length.
+#[no_mangle]
+pub extern "C" fn arkelutz_piece(
+    words: &mut FrontWords,
+    bytes: &mut FrontBytes,
+    state: &mut State,
+    channel: usize,
+    piece: &[u8],
+    journal: &mut [u64],
+    out: &mut [u8],
+    given: &mut u64,
+    length: &mut usize,
+) -> Pieced
+    ensures { λ _. ⌜ now (given .exit) ≤ 1 ⌝ }
+    ensures { λ r. ⌜ PiecePost (record { words = now (words .entry); bytes = now (bytes .entry) }) (now (state .entry)) (now (journal .entry)) channel (now (piece .entry)) (now (out .entry)) (record { refusal = r .refusal; taken = r .taken; given = isSet (now (given .exit)); length = now (length .exit) }) (record { words = now (words .exit); bytes = now (bytes .exit) }) (now (state .exit)) (now (journal .exit)) (now (out .exit)) ⌝ }
+{
+    let a = front::piece(words, bytes, state, channel, piece, journal, out);
+    if a.given {
+        *given = 1;
+    } else {
+        *given = 0;
+    }
+    *length = a.length;
+    Pieced {
+        refusal: a.refusal,
+        taken: a.taken,
+    }
+}
+
+// Empties a channel's front.
+#[no_mangle]
+pub extern "C" fn arkelutz_reopen(
+    words: &mut FrontWords,
+    bytes: &FrontBytes,
+    state: &State,
+    channel: usize,
+) -> u64
+    ensures { λ r. ⌜ ReopenPost (record { words = now (words .entry); bytes = now (bytes .entry) }) (now (state .entry)) channel r (record { words = now (words .exit); bytes = now (bytes .entry) }) ⌝ }
+{
+    front::reopen(words, bytes, state, channel)
 }

@@ -10,7 +10,7 @@ use crate::wire::{self, Message};
 pub const MORE: usize = 16;
 
 /// The calls that a state may refuse.
-const CALLS: &str = "receive, offer, withdraw, close, work, drain, permit, take";
+const CALLS: &str = "receive, offer, withdraw, close, work, drain, permit, take, piece, reopen";
 const LOOKS: &str = "1, 2, 3, 4, 5, 6, 7";
 
 /// The counts of blocks that any long list of calls must reach.

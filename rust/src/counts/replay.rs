@@ -3,16 +3,19 @@
 
 use super::blocks::{self, Empty};
 use super::devices::{lists, requests::Requests};
+use super::fronts::{self, Fronts};
 use super::numbers::{Before, Numbers};
 use super::orders;
 use super::peers::lists as id_lists;
 use super::peers::requests::Ended;
 use crate::block::Pair;
 use crate::entry::{KIND, SERVICE};
+use crate::front::Stage;
 use crate::lines::{Call, Host};
 use crate::peer::Ids;
+use crate::setup;
+use crate::state::{CHANNELS, JOURNAL_WORDS};
 use crate::wire::get64;
-use crate::{setup, state::JOURNAL_WORDS};
 
 #[derive(Default)]
 pub struct Replay {
@@ -22,6 +25,7 @@ pub struct Replay {
     numbers: Numbers,
     requests: Requests,
     ended: Ended,
+    fronts: Fronts,
     /// Why the state is the empty one, where it is.
     empty: Empty,
 }
@@ -37,6 +41,20 @@ impl Replay {
         !self.host.ids.is_empty()
     }
 
+    /// Whether a front keeps bytes or drops them.
+    pub fn has_front(&self) -> bool {
+        self.host.front.stages() != [Stage::EMPTY; CHANNELS]
+    }
+
+    /// The receive that a piece makes, if it ends a message.
+    pub fn made(&self, call: &Call) -> Option<Call> {
+        let Call::Piece(channel, bytes) = call else {
+            return None;
+        };
+        let message = self.host.front.message(*channel, bytes)?;
+        Some(Call::Receive(*channel, message))
+    }
+
     /// Whether a record's pair names a block from 16 on. The blocks are those
     /// of the state, which no call but setup moves.
     pub fn is_later_block(&self, record: &[u8]) -> bool {
@@ -45,9 +63,28 @@ impl Replay {
         named.is_some_and(|block| block >= blocks::MORE)
     }
 
-    /// Performs a call; gives the names of what its numbers, its devices,
-    /// orders and peers met.
+    /// Performs a call; gives the names of what it met at the front, and of
+    /// what its numbers, its devices, orders and peers met. A piece stands for
+    /// the receive that it makes.
     pub fn call(&mut self, call: &Call) -> Vec<String> {
+        let made = self.made(call);
+        let front = fronts::Before::of(&self.host, made.as_ref());
+        let last = self.host.state.last;
+        let mut names = Vec::new();
+        if last == 0 {
+            names.extend(self.empty.name(call));
+        }
+        names.extend(self.perform(call, made.as_ref().unwrap_or(call)));
+        let added = self.host.state.last > last;
+        let kind = added.then(|| KIND.of(self.host.entry(self.host.state.last)[0]));
+        let Replay { host, answer, .. } = self;
+        names.extend(self.fronts.names(&front, call, kind, host, answer));
+        names
+    }
+
+    /// Performs a call that stands for another; gives the names of what that
+    /// one met.
+    fn perform(&mut self, performed: &Call, call: &Call) -> Vec<String> {
         let before = Before::of(&self.host.state);
         let last = self.host.state.last;
         let mut names = match call {
@@ -55,9 +92,6 @@ impl Replay {
             _ => Vec::new(),
         };
         let searched = blocks::searches(&self.host.state, call);
-        if last == 0 {
-            names.extend(self.empty.name(call));
-        }
         let peers = self.host.state.peers;
         let of_peers = self.ended.names(&self.host.state, call);
         if let Call::Show(..) = call {
@@ -69,7 +103,7 @@ impl Replay {
         let touched = orders::touches(&self.host.state, call);
         let many = blocks::has_many(&self.host.state);
         self.answer.clear();
-        self.host.perform(call, &mut self.answer);
+        self.host.perform(performed, &mut self.answer);
         let state = &self.host.state;
         names.extend(blocks::silent_end(many, call, state, &self.answer));
         if state.last > last {

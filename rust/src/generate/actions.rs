@@ -13,7 +13,7 @@ use crate::{build, memory, wire};
 /// An action, its weight, and whether it tends to undo what was built up.
 type Action = (fn(&mut Generator), u64, bool);
 
-pub(super) const ACTIONS: [Action; 34] = [
+pub(super) const ACTIONS: [Action; 41] = [
     (Generator::prepare, 30, false),
     (Generator::prepare_memory, 20, false),
     (Generator::good_memory, 30, false),
@@ -34,7 +34,7 @@ pub(super) const ACTIONS: [Action; 34] = [
     (Generator::peer_fill, 2, false),
     (Generator::peer_data, 12, false),
     (Generator::peer_unreg, 6, false),
-    (Generator::peer_stray, 5, false),
+    (Generator::peer_stray, 8, false),
     (Generator::peer_drop, 2, true),
     (Generator::odd_peer_line, 1, false),
     (Generator::reg_req, 2, false),
@@ -48,6 +48,13 @@ pub(super) const ACTIONS: [Action; 34] = [
     (Generator::out_of_range, 3, false),
     (Generator::any_message, 3, true),
     (Generator::disturb, 2, true),
+    (Generator::stream, 12, false),
+    (Generator::full_stream, 3, false),
+    (Generator::cut_message, 5, false),
+    (Generator::dropping, 2, true),
+    (Generator::every_front, 1, false),
+    (Generator::reopen, 3, false),
+    (Generator::odd_piece_line, 2, false),
 ];
 
 impl Generator {
@@ -376,10 +383,10 @@ impl Generator {
         self.receive(channel, message);
     }
 
-    /// Any of the eight calls that a full journal or a size may refuse, each as
-    /// often as the others.
+    /// Any of the ten calls that a state, a full journal or a size may refuse,
+    /// each as often as the others.
     pub(super) fn each_call(&mut self) {
-        match self.random.below(8) {
+        match self.random.below(10) {
             0 => self.any_message(),
             1 => self.offer(),
             2 => self.withdraw(),
@@ -390,6 +397,8 @@ impl Generator {
             }
             5 => self.permit(),
             6 => self.call(Call::Take),
+            7 => self.any_piece(),
+            8 => self.reopen(),
             _ => self.call(Call::Drain(2)),
         }
     }
@@ -401,7 +410,7 @@ impl Generator {
             .random
             .pick(&[4, 4, 5, 7, 256, 1 << 32, 1 << 32 | 2, u64::MAX, high]);
         let good = self.channel();
-        let call = match self.random.below(8) {
+        let call = match self.random.below(10) {
             0 => Call::Receive(bad, messages::init_req(&mut self.random)),
             1 => Call::Offer(bad, good),
             2 => Call::Offer(good, bad),
@@ -409,6 +418,8 @@ impl Generator {
             4 => Call::Withdraw(good, bad),
             5 => Call::Close(bad),
             6 => Call::Permit(self.random.pick(&[bad, 0, 1]), self.random.once_in(2)),
+            7 => Call::Piece(bad, messages::init_req(&mut self.random)),
+            8 => Call::Reopen(bad),
             _ => Call::Work(
                 self.random
                     .pick(&[0, 0, 65_536, 65_537, 1 << 32 | 1, u64::MAX]),

@@ -392,7 +392,7 @@ pub fn bad_memory(random: &mut Random, state: &State, channel: u64) -> Vec<u8> {
         argument | 0x1_0000,
         argument << 24,
     ];
-    match random.weighted(&[20, 15, 15, 8, 12, 8, 2]) {
+    match random.weighted(&[20, 15, 15, 8, 12, 14, 2]) {
         0 => message.truncate(random.below(16) as usize),
         1 => message.truncate(random.between(16, length.max(17) - 1) as usize),
         2 => message[4..8].copy_from_slice(&random.pick(&wrong).to_be_bytes()),

@@ -7,12 +7,13 @@ mod messages;
 pub(crate) mod noise;
 mod orders;
 mod peers;
+mod pieces;
 pub mod random;
 pub(crate) mod setups;
 pub(crate) mod text;
 
 use crate::lines::{Call, Host, Line};
-use crate::state::{State, JOURNAL_WORDS, OUTPUT_BYTES, SLOTS};
+use crate::state::{State, CHANNELS, JOURNAL_WORDS, OUTPUT_BYTES, SLOTS};
 use actions::ACTIONS;
 use random::Random;
 use std::io::{self, Write};
@@ -62,6 +63,10 @@ struct Mixture {
     tight: bool,
     /// Calls from one `state` to the next.
     gap: u64,
+    /// In a thousand messages: those that come in pieces.
+    pieces: u64,
+    /// Whether something may undo what was built up.
+    upsets: bool,
 }
 
 impl Mixture {
@@ -83,6 +88,8 @@ impl Mixture {
             odd_sizes: random.pick(&[0, 5, 20, 60]),
             tight: random.once_in(4),
             gap: random.between(5, 20),
+            pieces: random.pick(&[0, 0, 0, 0, 0, 100, 400, 1_000]),
+            upsets: !calm,
         }
     }
 }
@@ -97,6 +104,8 @@ pub(crate) struct Generator {
     /// No calls are added once there are so many.
     stop: u64,
     mixture: Mixture,
+    /// By channel, what the peer has sent and the front has not taken.
+    streams: [Vec<u8>; CHANNELS],
     /// The number of the last device request.
     device_number: u64,
     /// Calls until the sizes are the usual ones again.
@@ -116,6 +125,7 @@ impl Generator {
             calls: 0,
             // One is left for the last drain.
             stop: calls.saturating_sub(1),
+            streams: Default::default(),
             device_number: 0,
             odd_sizes_left: 0,
             calls_at_state: 0,
@@ -150,12 +160,18 @@ impl Generator {
     }
 
     fn perform(&mut self, call: &Call) {
+        if let Call::Setup(_) = call {
+            self.streams = Default::default();
+        }
         self.answer.clear();
         self.host.perform(call, &mut self.answer);
     }
 
+    /// A message, in some lists in pieces.
     fn receive(&mut self, channel: u64, message: Vec<u8>) {
-        self.call(Call::Receive(channel, message));
+        if !self.by_pieces(channel, &message) {
+            self.call(Call::Receive(channel, message));
+        }
     }
 
     /// Writes a line as it is, and performs it if it is a call.
@@ -241,12 +257,17 @@ impl Generator {
                 false => self.step(),
             }
         }
+        if self.random.once_in(6) {
+            self.odd_output();
+            self.any_piece();
+            self.usual_sizes();
+        }
     }
 
     /// Each call before there is a setup.
     fn before_setup(&mut self) {
         self.call(Call::State);
-        for _ in 0..120.min(self.stop / 20) {
+        for _ in 0..150.min(self.stop / 20) {
             self.each_call();
         }
     }
@@ -304,6 +325,9 @@ impl Generator {
             self.odd_journal();
         }
         self.odd_output();
+        if self.random.once_in(3) {
+            self.any_piece();
+        }
     }
 
     fn odd_journal(&mut self) {

@@ -3,7 +3,7 @@
 use super::random::Random;
 use crate::lines::MAX_LINE;
 
-pub const ODD: [&[u8]; 83] = [
+pub const ODD: [&[u8]; 90] = [
     b"",
     b"\r",
     b" \r",
@@ -87,13 +87,22 @@ pub const ODD: [&[u8]; 83] = [
     b"Permit 2 1",
     b"take 1",
     b"take ",
+    b"Piece 1 00",
+    b" piece 1",
+    b"pieces 1 00",
+    b"piece\t1",
+    b"Reopen 1",
+    b"reopen 1\r",
+    b"setup 0 1 0 0 1 x",
 ];
 
 /// Beginnings of long lines, and what fills them.
-pub const LONG: [(&[u8], u8); 9] = [
+pub const LONG: [(&[u8], u8); 11] = [
     (b"receive 1 ", b'0'),
     (b"receive 0x0 ", b'a'),
     (b"show 2 ", b'F'),
+    (b"piece 1 ", b'0'),
+    (b"piece 2 ", b'a'),
     (b"#", b'x'),
     (b"", b' '),
     (b"work ", b'0'),

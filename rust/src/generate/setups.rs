@@ -122,7 +122,7 @@ pub fn bad(random: &mut Random) -> Vec<u64> {
         true => list.len() - 1,
         false => random.below(count) as usize,
     };
-    match random.weighted(&[2, 1, 12]) {
+    match random.weighted(&[2, 2, 12]) {
         0 => {
             let mut cut = words(&list);
             cut.truncate(cut.len() - random.between(1, 4) as usize);

@@ -12,7 +12,9 @@ pub fn write_call(call: &Call, random: &mut Random, text: &mut Vec<u8>) {
                 write_number(*word, random, text);
             }
         }
-        Call::Receive(channel, ref bytes) | Call::Show(channel, ref bytes) => {
+        Call::Receive(channel, ref bytes)
+        | Call::Show(channel, ref bytes)
+        | Call::Piece(channel, ref bytes) => {
             write_number(channel, random, text);
             write_bytes(bytes, random, text);
         }
@@ -24,7 +26,9 @@ pub fn write_call(call: &Call, random: &mut Random, text: &mut Vec<u8>) {
             write_number(service, random, text);
             write_number(permitted.into(), random, text);
         }
-        Call::Close(number) | Call::Work(number) => write_number(number, random, text),
+        Call::Close(number) | Call::Work(number) | Call::Reopen(number) => {
+            write_number(number, random, text);
+        }
         Call::Drain(size) | Call::Output(size) | Call::Journal(size) => {
             write_number(size as u64, random, text);
         }

@@ -30,6 +30,8 @@ pub enum Call {
     Peer(PeerLine),
     Permit(u64, bool),
     Take,
+    Piece(u64, Vec<u8>),
+    Reopen(u64),
 }
 
 impl Ask for Call {
@@ -57,6 +59,8 @@ impl Ask for Call {
                 Some(Call::Receive(number(channel)?, bytes(data)?))
             }
             (b"show", Some(channel), data) => Some(Call::Show(number(channel)?, bytes(data)?)),
+            (b"piece", Some(channel), data) => Some(Call::Piece(number(channel)?, bytes(data)?)),
+            (b"reopen", Some(channel), None) => Some(Call::Reopen(number(channel)?)),
             (b"offer", Some(channel), Some(service)) => {
                 Some(Call::Offer(number(channel)?, number(service)?))
             }
@@ -79,8 +83,8 @@ impl Ask for Call {
 }
 
 impl Call {
-    /// Whether it is a call of the agent; the other lines only ask for the
-    /// state or prepare a call.
+    /// Whether it is a call of the agent or its front; the other lines only
+    /// ask for the state or prepare a call.
     pub fn is_counted(&self) -> bool {
         !matches!(
             self,
@@ -106,6 +110,8 @@ impl Call {
             Call::Peer(_) => "peer",
             Call::Permit(..) => "permit",
             Call::Take => "take",
+            Call::Piece(..) => "piece",
+            Call::Reopen(_) => "reopen",
         }
     }
 }

@@ -66,7 +66,7 @@ fn grow(random: &mut Random, saved: &mut Saved) {
     for _ in 0..random.between(1, 200) {
         let kind = match random.weighted(&[10, 20, 20, 50]) {
             0 => random.below(KINDS as u64),
-            1 => random.pick(&[1, 4, 5]),
+            1 => random.pick(&[1, 4, 4, 5, 5, 9]),
             2 => random.between(1, 17),
             _ if reading.removal.is_none() => 12,
             _ => random.pick(&[12, 13, 13, 14, 14, 14, 15, 15, 15, 15, 15]),

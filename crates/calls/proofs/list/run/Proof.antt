@@ -6,10 +6,10 @@ use Rattle.calls.proofs.list.run.Tie as tie
 use Rattle.calls.proofs.list.run.Reads as reads
 
 abbrev Inv-loop : tie.InvT-loop
-Inv-loop input₀ text₀ line₀ journal₀ given₀ state₀ used₀ place₀ reads₀ input text line journal given state used place reads = length input ≡ 65536
+Inv-loop input₀ text₀ line₀ journal₀ given₀ words₀ bytes₀ state₀ used₀ place₀ reads₀ input text line journal given words bytes state used place reads = length input ≡ 65536
 
 abbrev μ-loop : tie.MeasureT-loop
-μ-loop input₀ text₀ line₀ journal₀ given₀ state₀ used₀ place₀ reads₀ input text line journal given state used place reads = reads
+μ-loop input₀ text₀ line₀ journal₀ given₀ words₀ bytes₀ state₀ used₀ place₀ reads₀ input text line journal given words bytes state used place reads = reads
 
 loop-holds : tie.Need-loop-holds Inv-loop μ-loop
 loop-holds c = search needs

@@ -5,10 +5,10 @@ use Rattle.calls.proofs.list.take_piece.Statement.{statement}
 use Rattle.calls.proofs.list.take_piece.Tie as tie
 
 abbrev Inv-loop : tie.InvT-loop
-Inv-loop piece line₀ given₀ state₀ journal₀ text₀ used₀ next₀ i₀ line given state journal text used next i = i ≤ length piece
+Inv-loop piece line₀ given₀ words₀ bytes₀ state₀ journal₀ text₀ used₀ next₀ i₀ line given words bytes state journal text used next i = i ≤ length piece
 
 abbrev μ-loop : tie.MeasureT-loop
-μ-loop piece line₀ given₀ state₀ journal₀ text₀ used₀ next₀ i₀ line given state journal text used next i = length piece - i
+μ-loop piece line₀ given₀ words₀ bytes₀ state₀ journal₀ text₀ used₀ next₀ i₀ line given words bytes state journal text used next i = length piece - i
 
 loop-holds : tie.Need-loop-holds Inv-loop μ-loop
 loop-holds c = search needs

@@ -1,0 +1,57 @@
+-- `front::copy` meets its contract: the loop's invariant is that the bytes passed are stored, and the measure the bytes left.
+-- Assumes nothing.
+use native.Mathlib.Omega.{arith}
+use mathlib.Core.Path.{_≡_, refl, ap, _∙_}
+use Prim.Native.Nat.{_≤_, _-_}
+use lib.ListN.{length, take}
+use lib.Seq.{sets, take-all}
+use Rattle.wire.proofs.Laws.{sets-more}
+use Rattle.front.proofs.copy.Statement.{statement}
+use Rattle.front.proofs.copy.Tie as tie
+
+abbrev Inv-loop : tie.InvT-loop
+Inv-loop bytes₀ at piece i₀ bytes i = (i ≤ length piece) × (bytes ≡ sets bytes₀ at (take i piece))
+
+abbrev μ-loop : tie.MeasureT-loop
+μ-loop bytes₀ at piece i₀ bytes i = length piece - i
+
+loop-holds : tie.Need-loop-holds Inv-loop μ-loop
+loop-holds c = (omega arith, refl)
+
+shared-slice-read-bytes : tie.Need-shared-slice-read-bytes Inv-loop μ-loop
+shared-slice-read-bytes c = omega arith
+
+add-bytes : tie.Need-add-bytes Inv-loop μ-loop
+add-bytes c = omega arith
+
+element-write-bytes : tie.Need-element-write-bytes Inv-loop μ-loop
+element-write-bytes c = omega arith
+
+add-i : tie.Need-add-i Inv-loop μ-loop
+add-i c = omega arith
+
+loop-less : tie.Need-loop-less Inv-loop μ-loop
+loop-less c = omega arith
+
+loop-again : tie.Need-loop-again Inv-loop μ-loop
+loop-again c = (omega arith, sets-more _ _ _ _ (c .before .loop-test .taken) (c .before .before .loop .inv .1))
+
+returns : tie.Need-returns Inv-loop μ-loop
+returns c =
+    let l = c .before .loop in
+    l .inv .1 ∙ ap (sets _ _) (take-all (l .i) (c .before .before .args .piece .now) (omega arith))
+
+pub copy-spec : {M : Type 1} → statement M
+copy-spec =
+    tie.close
+    (tie.spec
+    Inv-loop
+    μ-loop
+    loop-holds
+    shared-slice-read-bytes
+    add-bytes
+    element-write-bytes
+    add-i
+    loop-less
+    loop-again
+    returns)

@@ -1,0 +1,21 @@
+-- `front::given` meets its contract: by the agent's refusal.
+-- Assumes nothing.
+use borrow.Author.Tests.{eq-eqb, ne-eqb}
+use Rattle.model.specs.Choice.{pick}
+use borrow.Author.Needs.{needs}
+use Rattle.front.proofs.given.Statement.{statement}
+use Rattle.front.proofs.given.Tie as tie
+
+refused-requires : tie.Need-refused-requires
+refused-requires c κs = search needs
+
+returns : tie.Need-returns
+unfolding pick
+returns c = rw (ne-eqb _ _ (c .before .if1 .taken)) (c .refused .ensures)
+
+returns-2 : tie.Need-returns-2
+unfolding pick
+returns-2 c = rw (eq-eqb _ _ (c .if1 .left))
+
+pub given-spec : {M : Type 1} → statement M
+given-spec = tie.close (tie.spec refused-requires returns returns-2)

@@ -1,0 +1,74 @@
+-- `front::keep_piece` meets its contract: refused, or the piece is stored behind the kept part.
+-- Assumes nothing.
+use native.Mathlib.Omega.{arith}
+use mathlib.Core.Path.{sym, _∙_}
+use Prim.Native.Nat.{_+_, _≤_}
+use lib.ListN.{length}
+use Rattle.front_model.specs.Front.{Front, mostKept}
+use Rattle.front.proofs.Pieces.{piece-refused, piece-kept, kept-length}
+use borrow.Author.Needs.{needs}
+use Rattle.front.proofs.keep_piece.Statement.{statement}
+use Rattle.front.proofs.keep_piece.Tie as tie
+
+lent-refusal-requires : tie.Need-lent-refusal-requires
+lent-refusal-requires c κs = search needs
+
+refused-requires : tie.Need-refused-requires
+refused-requires c κs = search needs
+
+returns : tie.Need-returns
+returns c =
+    let d = c .before .before in
+    rw (c .refused .ensures) (piece-refused _ _ _ _ _ _ (d .before .before .before .before .pre .fronts) _ (d .lent-refusal .ensures) (c .before .if1 .taken))
+
+kept-of-requires : tie.Need-kept-of-requires
+kept-of-requires c κs = search needs
+
+-- where the kept bytes are counted: the entry, and that there is room for the piece
+abbrev start : tie.After-kept-of → tie.Start
+start c = c .before .before .before .before .before .before .before
+
+room : (c : tie.After-kept-of) → c .kept-of .result + length (start c .args .piece .now) ≤ mostKept
+room c =
+    let a = start c .args in
+    let g = start c .pre in
+    let f : Front = record { words = a .words .now; bytes = a .bytes .now } in
+    omega (arith, g .comes .few, kept-length f (a .channel) (g .fronts), c .kept-of .ensures)
+
+mul-copy : tie.Need-mul-copy
+mul-copy c = search needs
+
+add-copy : tie.Need-add-copy
+add-copy c = omega (arith, room (c .before), start (c .before) .pre .fronts .within)
+
+copy-requires : tie.Need-copy-requires
+copy-requires c κs = omega (arith, room (c .before), start (c .before) .pre .fronts .within)
+
+add-set-words : tie.Need-add-set-words
+add-set-words c = omega (arith, room (c .before .before .before))
+
+set-words-requires : tie.Need-set-words-requires
+set-words-requires c κs = search needs
+
+returns-2 : tie.Need-returns-2
+returns-2 c =
+    let d = c .before .before .before .before in
+    let e = d .before .before in
+    let k = d .kept-of .ensures in
+    piece-kept _ _ _ _ _ _ _ (start d .pre) (sym (e .before .lent-refusal .ensures) ∙ e .if1 .left)
+    (record { words = rw k at (c .set-words .ensures); bytes = rw k at (c .before .before .copy .ensures); fits = omega (arith, room d, k) })
+
+pub keep-piece-spec : {M : Type 1} → statement M
+keep-piece-spec =
+    tie.close
+    (tie.spec
+    lent-refusal-requires
+    refused-requires
+    returns
+    kept-of-requires
+    mul-copy
+    add-copy
+    copy-requires
+    add-set-words
+    set-words-requires
+    returns-2)

@@ -1,0 +1,4 @@
+pub mod Refusals
+pub mod Changes
+pub mod Next
+pub mod Answers
