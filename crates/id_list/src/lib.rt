@@ -10,13 +10,16 @@ use model::ID_WORDS;
 use model::MOST_ID_BYTES;
 use model::MOST_IDS;
 use model::State;
+use model::WORD_BYTES;
 ghost use mathlib.Core.Path.{_≡_};
 ghost use mathlib.Core.Bool.{true};
 ghost use Prim.Native.Nat.{_+_, _*_, _≤_, _<_};
 ghost use lib.ListN.{length};
 ghost use Rattle.model.specs.Choice.{every};
 ghost use Rattle.model.specs.Layout.{firstIdWord, idAt, idsOf, idWords, mostIds};
+ghost use Rattle.model.specs.Devices.{wordsHolding};
 ghost use Rattle.model.specs.Peers.{acceptedIds, idApart, idKeeps, idsKeep, listedId};
+ghost use Rattle.id_list.specs.Marks.{Marked, apartAt, folded, markOf, marksApart, mixed};
 
 // The rules of one id: a major and a highest minor of 16 bits, and its bytes.
 fn id_keeps(words: &[u64], at: usize, p: usize) -> bool
@@ -53,7 +56,129 @@ fn id_apart(words: &[u64], at: usize, p: usize) -> bool
     true
 }
 
-// The `n` ids whose words stand from `at` on are not too many, keep the rules, and differ.
+fn each_apart(words: &[u64], at: usize, n: usize) -> bool
+    requires { ⌜ (at + n * idWords ≤ length (now words)) × (every n (idKeeps (now words) at) ≡ true) ⌝ }
+    ensures { λ r. ⌜ r ≡ every n (idApart (now (words .entry)) at) ⌝ }
+{
+    let mut p: usize = 0;
+    while p < n {
+        if !id_apart(words, at, p) {
+            return false;
+        }
+        p += 1;
+    }
+    true
+}
+
+// Every call of the agent tests the whole list. So that not each pair of ids is compared, each has a mark of 32 bits; ids are compared only where two marks are the same.
+// A mark stands twice, so that each stands beside each other one at a distance up to half of them.
+type Marks = [u32; 2 * MOST_IDS];
+
+// One word more in a mark, turned first, so that words in another order give another one.
+fn mixed(mark: u64, word: u64) -> u64
+    ensures { λ r. ⌜ r ≡ mixed mark word ⌝ }
+{
+    ((mark << 25) | (mark >> 39)) ^ word
+}
+
+// 32 bits of it.
+fn folded(mark: u64) -> u32
+    ensures { λ r. ⌜ r ≡ folded mark ⌝ }
+{
+    ((mark ^ (mark >> 29)) % 4294967296) as u32
+}
+
+// The mark of the `n` bytes from the word `from` on.
+fn mark_of(words: &[u64], from: usize, n: usize) -> u32
+    requires { ⌜ (1 ≤ n) × (from + wordsHolding n ≤ length (now words)) ⌝ }
+    ensures { λ r. ⌜ r ≡ markOf (now (words .entry)) from n ⌝ }
+{
+    let count = (n - 1) / WORD_BYTES + 1;
+    let mut mark = n as u64;
+    let mut q: usize = 0;
+    while q < count {
+        mark = mixed(mark, words[from + q]);
+        q += 1;
+    }
+    folded(mark)
+}
+
+// The ids keep the rules, each by itself; where they do, their marks are written.
+fn each_keeps(words: &[u64], at: usize, n: usize, marks: &mut Marks) -> bool
+    requires { ⌜ (n ≤ mostIds) × (at + n * idWords ≤ length (now words)) × (length (now marks) ≡ 2 * mostIds) ⌝ }
+    ensures { λ r. ⌜ (r ≡ every n (idKeeps (now (words .entry)) at)) × (r ≡ true → Marked (now (words .entry)) at n (now (marks .exit))) ⌝ }
+{
+    let mut p: usize = 0;
+    while p < n {
+        if !id_keeps(words, at, p) {
+            return false;
+        }
+        let d = at + p * ID_WORDS;
+        let mark = mark_of(words, d + ID_PLACE, words[d + ID_BYTES_PLACE] as usize);
+        marks[p] = mark;
+        marks[p + MOST_IDS] = mark;
+        p += 1;
+    }
+    true
+}
+
+// No mark is the one so many places on. All of them are read: a loop without another way out takes several marks a turn.
+fn apart_at(marks: &Marks, distance: usize) -> bool
+    requires { ⌜ distance ≤ mostIds ⌝ }
+    ensures { λ r. ⌜ r ≡ apartAt (now (marks .entry)) distance ⌝ }
+{
+    let mut apart = true;
+    let mut k: usize = 0;
+    while k < MOST_IDS {
+        apart = apart & (marks[k] != marks[k + distance]);
+        k += 1;
+    }
+    apart
+}
+
+// No two marks are the same.
+fn marks_apart(marks: &Marks) -> bool
+    ensures { λ r. ⌜ r ≡ marksApart (now (marks .entry)) ⌝ }
+{
+    let mut apart = true;
+    let mut d: usize = 0;
+    while d < MOST_IDS / 2 {
+        apart = apart & apart_at(marks, d + 1);
+        d += 1;
+    }
+    apart
+}
+
+// Marks that differ, for the places past the last id.
+fn first_marks() -> Marks
+    ensures { λ r. ⌜ length r ≡ 2 * mostIds ⌝ }
+{
+    let mut marks: Marks = [0; 2 * MOST_IDS];
+    let mut p: usize = 0;
+    while p < MOST_IDS {
+        marks[p] = p as u32;
+        marks[p + MOST_IDS] = p as u32;
+        p += 1;
+    }
+    marks
+}
+
+// The ids keep the rules, and differ.
+fn keep_apart(words: &[u64], at: usize, n: usize) -> bool
+    requires { ⌜ (n ≤ mostIds) × (at + n * idWords ≤ length (now words)) ⌝ }
+    ensures { λ r. ⌜ r ≡ idsKeep (now (words .entry)) at n ⌝ }
+{
+    let mut marks = first_marks();
+    if !each_keeps(words, at, n, &mut marks) {
+        return false;
+    }
+    if marks_apart(&marks) {
+        return true;
+    }
+    each_apart(words, at, n)
+}
+
+// The `n` ids whose words stand from `at` on are not too many, keep the rules, and differ. No list is as short as can be.
 fn keep_rules(words: &[u64], at: usize, n: usize) -> bool
     requires { ⌜ (n ≤ mostIds → at + n * idWords ≤ length (now words)) ⌝ }
     ensures { λ r. ⌜ r ≡ idsKeep (now (words .entry)) at n ⌝ }
@@ -61,17 +186,10 @@ fn keep_rules(words: &[u64], at: usize, n: usize) -> bool
     if MOST_IDS < n {
         return false;
     }
-    let mut p: usize = 0;
-    while p < n {
-        if !id_keeps(words, at, p) {
-            return false;
-        }
-        if !id_apart(words, at, p) {
-            return false;
-        }
-        p += 1;
+    if n < 1 {
+        return true;
     }
-    true
+    keep_apart(words, at, n)
 }
 
 // Whole ids, not too many, that keep the rules.

@@ -1,0 +1,107 @@
+-- Ids that are the same have the same mark: where no two marks are the same, no two ids are.
+-- Assumes nothing.
+use mathlib.Core.Path.{_≡_, refl, sym, ap, _∙_}
+use mathlib.Core.Bool.{Bool, true, false, not}
+use mathlib.Core.List.{List}
+use Prim.Native.Nat.{ℕ, zero, suc, _+_, _-_, _*_, _/_, _^_, _<_, _≤_}
+use native.Mathlib.Nat.{not-suc-le-zero}
+use native.Mathlib.Omega.{arith}
+use lib.ListN.{length, getD, set, length-set}
+use lib.Seq.{getD-set-same, getD-set-other}
+use lib.Dec.{eqb, leb}
+use borrow.Author.Tests.{eqb-true, eqb-false, leb-true, leb-false, not-true}
+use Rattle.model.specs.Choice.{every}
+use Rattle.model.specs.Layout.{idBytesIn, idIn, mostIds, wordBytes}
+use Rattle.model.specs.Devices.{sameName}
+use Rattle.model.specs.Peers.{idApart, idKeeps}
+use Rattle.model.proofs.Choice.{clash, every-at, every-make}
+use Rattle.model.proofs.Loops.{refute}
+use Rattle.names.specs.NameWords.{heldBytes, sameBytes}
+use Rattle.names.proofs.Bytes.{words-differ}
+use Rattle.names.proofs.Names.{lengths-differ, pair-words}
+use Rattle.id_list.specs.Marks.{Marked, apartAt, folded, markIn, markOf, marksApart, mixed, mixedWords}
+use Rattle.id_list.proofs.Ids.{BytesRules, bytesFrom, bytes-rules, id-at, pair-same}
+
+-- numbers whose difference would refute a test
+alike : {b : Bool} (v w : ℕ) → b ≡ true → ((v ≡ w → ⊥) → b ≡ false) → v ≡ w
+alike {b} v w t f = go (eqb v w) refl
+  where
+    go : (d : Bool) → eqb v w ≡ d → v ≡ w
+    go true e = eqb-true v w e
+    go false e = absurd (clash b (f (eqb-false v w e)) t)
+
+-- one mark more
+module _ (l : List ℕ) (at p : ℕ) (marks : List ℕ) (v : ℕ) (long : length marks ≡ 2 * mostIds) (few : p < mostIds) (m : Marked l at p marks) (e : v ≡ markIn l at p) where
+  abbrev pub withMark : List ℕ
+  withMark = set (set marks p v) (p + mostIds) v
+
+  pub still-long : length withMark ≡ 2 * mostIds
+  still-long = simp length-set long
+
+  pub marked-more : Marked l at (p + 1) withMark
+  marked-more =
+      record { first = λ k h. first k h (eqb k p) refl; again = λ k h. again k h (eqb k p) refl }
+    where
+      first : (k : ℕ) → k < p + 1 → (b : Bool) → eqb k p ≡ b → getD withMark k 0 ≡ markIn l at k
+      first k h true d =
+          rw (eqb-true k p d)
+          (getD-set-other (set marks p v) (p + mostIds) p v 0 (λ z. omega arith) ∙ getD-set-same marks p v 0 (omega arith) ∙ e)
+      first k h false d =
+          let other = eqb-false k p d in
+          getD-set-other (set marks p v) (p + mostIds) k v 0 (λ z. omega arith)
+          ∙ getD-set-other marks p k v 0 other
+          ∙ m .first k (omega arith)
+
+      again : (k : ℕ) → k < p + 1 → (b : Bool) → eqb k p ≡ b → getD withMark (k + mostIds) 0 ≡ markIn l at k
+      again k h true d =
+          rw (eqb-true k p d) (getD-set-same (set marks p v) (p + mostIds) v 0 (omega (arith, length-set marks p v)) ∙ e)
+      again k h false d =
+          let other = eqb-false k p d in
+          getD-set-other (set marks p v) (p + mostIds) (k + mostIds) v 0 (λ z. other (omega arith))
+          ∙ getD-set-other marks p (k + mostIds) v 0 (λ z. omega arith)
+          ∙ m .again k (omega arith)
+
+pub none-marked : (l : List ℕ) (at : ℕ) (marks : List ℕ) → Marked l at 0 marks
+none-marked l at marks = record { first = λ p h. absurd (not-suc-le-zero h); again = λ p h. absurd (not-suc-le-zero h) }
+
+words-mixed : (l : List ℕ) (a b m k : ℕ) → ((q : ℕ) → q < k → getD l (a + q) 0 ≡ getD l (b + q) 0) → mixedWords l a m k ≡ mixedWords l b m k
+unfolding mixedWords
+words-mixed l a b m zero h = refl
+words-mixed l a b m (suc k) h = rw (words-mixed l a b m k (λ q j. h q (omega arith)), h k (omega arith))
+
+module _ (l : List ℕ) (fits : (k : ℕ) → getD l k 0 < 256 ^ wordBytes) (at : ℕ) where
+  same-mark : (p q : ℕ) → BytesRules l at p → BytesRules l at q → sameName (idIn l at q .bytes) (idIn l at p .bytes) ≡ true → markIn l at q ≡ markIn l at p
+  unfolding markOf
+  same-mark p q rp rq t =
+      let s = pair-same l at p q ∙ t in
+      let n : idBytesIn l at q ≡ idBytesIn l at p = alike _ _ s (λ d. sym (lengths-differ l (bytesFrom at q) (idBytesIn l at q) (bytesFrom at p) (idBytesIn l at p) d)) in
+      let w = pair-words l (bytesFrom at q) (idBytesIn l at q) (bytesFrom at p) (idBytesIn l at p) (rq .some) (rq .padding) (rp .padding) n ∙ s in
+      ap folded
+      (words-mixed l _ _ _ _ (λ k h. alike _ _ (every-at _ _ k w h) (words-differ _ _ (fits _) (fits _)))
+      ∙ ap (λ (m : ℕ). mixedWords l (bytesFrom at p) m ((m - 1) / wordBytes + 1)) n)
+
+  module _ (n : ℕ) (few : n ≤ mostIds) (each : every n (idKeeps l at) ≡ true) (marks : List ℕ) (marked : Marked l at n marks) (apart : marksApart marks ≡ true) where
+    -- a mark is not the one at a distance up to half of them
+    at-distance : (k j : ℕ) → k < mostIds → k < j → j ≤ k + mostIds / 2 → getD marks k 0 ≡ getD marks j 0 → ⊥
+    unfolding marksApart apartAt
+    at-distance k j few below near e =
+        let there : k + (j - k - 1 + 1) ≡ j = omega arith in
+        eqb-false _ _ (not-true _ (every-at _ mostIds k (every-at _ (mostIds / 2) (j - k - 1) apart (omega arith)) few))
+        (e ∙ ap (λ (i : ℕ). getD marks i 0) (sym there))
+
+    marks-differ : (p q : ℕ) → p < n → q < p → markIn l at q ≡ markIn l at p → ⊥
+    marks-differ p q h below e = go (leb p (q + mostIds / 2)) refl
+      where
+        go : (b : Bool) → leb p (q + mostIds / 2) ≡ b → ⊥
+        go true d =
+            at-distance q p (omega arith) below (leb-true _ _ d) (marked .first q (omega arith) ∙ e ∙ sym (marked .first p h))
+        go false d =
+            let far = leb-false p (q + mostIds / 2) d in
+            at-distance p (q + mostIds) (omega arith) (omega arith) (omega arith) (marked .first p h ∙ sym e ∙ sym (marked .again q (omega arith)))
+
+    pub marks-decide : every n (idApart l at) ≡ true
+    unfolding idApart
+    marks-decide =
+        every-make _ n
+        (λ p h. every-make _ p
+        (λ q below. ap not (sym (refute _ (λ t. marks-differ p q h below (same-mark p q (bytes-rules _ _ _ (id-at l at n p each h)) (bytes-rules _ _ _ (id-at l at n q each (omega arith))) t))))))

@@ -1,0 +1,77 @@
+-- `id_list::mark_of` meets its contract: the words passed are mixed.
+-- Assumes nothing.
+use mathlib.Core.Path.{_≡_, refl, ap, _∙_}
+use Prim.Native.Nat.{_+_, _/_, _≤_, _-_}
+use native.Mathlib.Numerals.{add-one}
+use native.Mathlib.Omega.{arith}
+use Rattle.model.specs.Layout.{wordBytes}
+use Rattle.id_list.specs.Marks.{folded, markOf, mixedWords}
+use Rattle.id_list.proofs.mark_of.Statement.{statement}
+use Rattle.id_list.proofs.mark_of.Tie as tie
+
+abbrev Inv-loop : tie.InvT-loop
+Inv-loop words from n count mark₀ q₀ mark q = (q ≤ count) × (mark ≡ mixedWords words from n q)
+
+abbrev μ-loop : tie.MeasureT-loop
+μ-loop words from n count mark₀ q₀ mark q = count - q
+
+sub-count : tie.Need-sub-count Inv-loop μ-loop
+sub-count c = omega arith
+
+add-count : tie.Need-add-count Inv-loop μ-loop
+add-count c = omega arith
+
+loop-holds : tie.Need-loop-holds Inv-loop μ-loop
+unfolding mixedWords
+loop-holds c = (omega arith, refl)
+
+add-mixed : tie.Need-add-mixed Inv-loop μ-loop
+add-mixed c = omega arith
+
+mul-mixed : tie.Need-mul-mixed Inv-loop μ-loop
+mul-mixed c = omega arith
+
+shared-slice-read-mixed : tie.Need-shared-slice-read-mixed Inv-loop μ-loop
+shared-slice-read-mixed c = omega arith
+
+mixed-requires : tie.Need-mixed-requires Inv-loop μ-loop
+mixed-requires c κs = tt
+
+add-q : tie.Need-add-q Inv-loop μ-loop
+add-q c = omega arith
+
+loop-less : tie.Need-loop-less Inv-loop μ-loop
+loop-less c = omega arith
+
+loop-again : tie.Need-loop-again Inv-loop μ-loop
+unfolding mixedWords
+loop-again c = (omega arith, c .mixed .ensures ∙ rw (c .before .before .before .loop .inv .1, add-one))
+
+folded-requires : tie.Need-folded-requires Inv-loop μ-loop
+folded-requires c κs = tt
+
+returns : tie.Need-returns Inv-loop μ-loop
+unfolding markOf
+returns c =
+    let l = c .before .before .loop in
+    let past : l .q ≡ (c .before .before .before .before .args .n - 1) / wordBytes + 1 = omega (arith, l .inv .0, c .before .loop-test .left) in
+    c .folded .ensures ∙ ap folded (l .inv .1 ∙ rw past)
+
+pub mark-of-spec : {M : Type 1} → statement M
+mark-of-spec =
+    tie.close
+    (tie.spec
+    Inv-loop
+    μ-loop
+    sub-count
+    add-count
+    loop-holds
+    add-mixed
+    mul-mixed
+    shared-slice-read-mixed
+    mixed-requires
+    add-q
+    loop-less
+    loop-again
+    folded-requires
+    returns)
