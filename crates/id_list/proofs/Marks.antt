@@ -8,18 +8,18 @@ use native.Mathlib.Nat.{not-suc-le-zero}
 use native.Mathlib.Omega.{arith}
 use lib.ListN.{length, getD, set, length-set}
 use lib.Seq.{getD-set-same, getD-set-other}
-use lib.Dec.{eqb, leb}
-use borrow.Author.Tests.{eqb-true, eqb-false, leb-true, leb-false, not-true}
+use lib.Dec.{eqb, leb, ltb}
+use borrow.Author.Tests.{eqb-true, eqb-false, leb-true, leb-false, ltb-true, not-true}
 use Rattle.model.specs.Choice.{every}
-use Rattle.model.specs.Layout.{idBytesIn, idIn, mostIds, wordBytes}
-use Rattle.model.specs.Devices.{sameName}
+use Rattle.model.specs.Layout.{idBytesIn, idIn, mostIdBytes, mostIds, wordBytes}
+use Rattle.model.specs.Devices.{sameName, wordsHolding}
 use Rattle.model.specs.Peers.{idApart, idKeeps}
-use Rattle.model.proofs.Choice.{clash, every-at, every-make}
+use Rattle.model.proofs.Choice.{clash, every-at, every-make, on-pick}
 use Rattle.model.proofs.Loops.{refute}
 use Rattle.names.specs.NameWords.{heldBytes, sameBytes}
 use Rattle.names.proofs.Bytes.{words-differ}
 use Rattle.names.proofs.Names.{lengths-differ, pair-words}
-use Rattle.id_list.specs.Marks.{Marked, apartAt, folded, markIn, markOf, marksApart, mixed, mixedWords}
+use Rattle.id_list.specs.Marks.{Marked, apartAt, folded, least, markIn, markOf, marksApart, mixed, mixedWords}
 use Rattle.id_list.proofs.Ids.{BytesRules, bytesFrom, bytes-rules, id-at, pair-same}
 
 -- numbers whose difference would refute a test
@@ -64,10 +64,14 @@ module _ (l : List ℕ) (at p : ℕ) (marks : List ℕ) (v : ℕ) (long : length
 pub none-marked : (l : List ℕ) (at : ℕ) (marks : List ℕ) → Marked l at 0 marks
 none-marked l at marks = record { first = λ p h. absurd (not-suc-le-zero h); again = λ p h. absurd (not-suc-le-zero h) }
 
-words-mixed : (l : List ℕ) (a b m k : ℕ) → ((q : ℕ) → q < k → getD l (a + q) 0 ≡ getD l (b + q) 0) → mixedWords l a m k ≡ mixedWords l b m k
+pub at-most : (a b : ℕ) → least a b ≤ b
+unfolding least
+at-most a b = on-pick (λ (m : ℕ). m ≤ b) (ltb a b) a b (λ t. let below = ltb-true a b t in omega arith) (λ t. omega arith)
+
+words-mixed : (l : List ℕ) (a b last m k : ℕ) → ((q : ℕ) → q < last + 1 → getD l (a + q) 0 ≡ getD l (b + q) 0) → mixedWords l a last m k ≡ mixedWords l b last m k
 unfolding mixedWords
-words-mixed l a b m zero h = refl
-words-mixed l a b m (suc k) h = rw (words-mixed l a b m k (λ q j. h q (omega arith)), h k (omega arith))
+words-mixed l a b last m zero h = refl
+words-mixed l a b last m (suc k) h = rw (words-mixed l a b last m k h, h (least k last) (omega (arith, at-most k last)))
 
 module _ (l : List ℕ) (fits : (k : ℕ) → getD l k 0 < 256 ^ wordBytes) (at : ℕ) where
   same-mark : (p q : ℕ) → BytesRules l at p → BytesRules l at q → sameName (idIn l at q .bytes) (idIn l at p .bytes) ≡ true → markIn l at q ≡ markIn l at p
@@ -77,8 +81,8 @@ module _ (l : List ℕ) (fits : (k : ℕ) → getD l k 0 < 256 ^ wordBytes) (at 
       let n : idBytesIn l at q ≡ idBytesIn l at p = alike _ _ s (λ d. sym (lengths-differ l (bytesFrom at q) (idBytesIn l at q) (bytesFrom at p) (idBytesIn l at p) d)) in
       let w = pair-words l (bytesFrom at q) (idBytesIn l at q) (bytesFrom at p) (idBytesIn l at p) (rq .some) (rq .padding) (rp .padding) n ∙ s in
       ap folded
-      (words-mixed l _ _ _ _ (λ k h. alike _ _ (every-at _ _ k w h) (words-differ _ _ (fits _) (fits _)))
-      ∙ ap (λ (m : ℕ). mixedWords l (bytesFrom at p) m ((m - 1) / wordBytes + 1)) n)
+      (words-mixed l _ _ _ _ _ (λ k h. alike _ _ (every-at _ _ k w h) (words-differ _ _ (fits _) (fits _)))
+      ∙ ap (λ (m : ℕ). mixedWords l (bytesFrom at p) ((m - 1) / wordBytes) m (wordsHolding mostIdBytes)) n)
 
   module _ (n : ℕ) (few : n ≤ mostIds) (each : every n (idKeeps l at) ≡ true) (marks : List ℕ) (marked : Marked l at n marks) (apart : marksApart marks ≡ true) where
     -- a mark is not the one at a distance up to half of them

@@ -5,27 +5,31 @@ use mathlib.Core.Path.{_≡_}
 use mathlib.Core.Bool.{Bool, not}
 use mathlib.Core.List.{List}
 use lib.Bits.{bitOr, bitXor}
-use lib.Dec.{eqb}
+use lib.Dec.{eqb, ltb}
 use lib.ListN.{getD}
-use Rattle.model.specs.Choice.{every}
-use Rattle.model.specs.Layout.{idBytesIn, idPlace, idWords, mostIds, wordBytes}
+use Rattle.model.specs.Choice.{every, pick}
+use Rattle.model.specs.Layout.{idBytesIn, idPlace, idWords, mostIdBytes, mostIds, wordBytes}
+use Rattle.model.specs.Devices.{wordsHolding}
 
 -- one word more in a mark
 unfoldable pub mixed : ℕ → ℕ → ℕ
 mixed m w = bitXor (bitOr (m * 2 ^ 25 % 2 ^ 64) (m / 2 ^ 39)) w
 
--- the k words from `from` on
-unfoldable pub mixedWords : List ℕ → ℕ → ℕ → ℕ → ℕ
-mixedWords l from m zero = m
-mixedWords l from m (suc k) = mixed (mixedWords l from m k) (getD l (from + k) 0)
+unfoldable pub least : ℕ → ℕ → ℕ
+least a b = pick (ltb a b) a b
+
+-- k words from `from` on, past the last one that again
+unfoldable pub mixedWords : List ℕ → ℕ → ℕ → ℕ → ℕ → ℕ
+mixedWords l from last m zero = m
+mixedWords l from last m (suc k) = mixed (mixedWords l from last m k) (getD l (from + least k last) 0)
 
 -- 32 bits of it
 unfoldable pub folded : ℕ → ℕ
 folded m = bitXor m (m / 2 ^ 29) % 2 ^ 32
 
--- the n bytes from the word `from` on
+-- the id of n bytes from the word `from` on
 unfoldable pub markOf : List ℕ → ℕ → ℕ → ℕ
-markOf l from n = folded (mixedWords l from n ((n - 1) / wordBytes + 1))
+markOf l from n = folded (mixedWords l from ((n - 1) / wordBytes) n (wordsHolding mostIdBytes))
 
 -- id p
 abbrev pub markIn : List ℕ → ℕ → ℕ → ℕ

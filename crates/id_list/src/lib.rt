@@ -19,7 +19,7 @@ ghost use Rattle.model.specs.Choice.{every};
 ghost use Rattle.model.specs.Layout.{firstIdWord, idAt, idsOf, idWords, mostIds};
 ghost use Rattle.model.specs.Devices.{wordsHolding};
 ghost use Rattle.model.specs.Peers.{acceptedIds, idApart, idKeeps, idsKeep, listedId};
-ghost use Rattle.id_list.specs.Marks.{Marked, apartAt, folded, markOf, marksApart, mixed};
+ghost use Rattle.id_list.specs.Marks.{Marked, apartAt, folded, least, markOf, marksApart, mixed};
 
 // The rules of one id: a major and a highest minor of 16 bits, and its bytes.
 fn id_keeps(words: &[u64], at: usize, p: usize) -> bool
@@ -74,6 +74,9 @@ fn each_apart(words: &[u64], at: usize, n: usize) -> bool
 // A mark stands twice, so that each stands beside each other one at a distance up to half of them.
 type Marks = [u32; 2 * MOST_IDS];
 
+// The words that the bytes of an id may take.
+const BYTE_WORDS: usize = ID_WORDS - ID_PLACE;
+
 // One word more in a mark, turned first, so that words in another order give another one.
 fn mixed(mark: u64, word: u64) -> u64
     ensures { λ r. ⌜ r ≡ mixed mark word ⌝ }
@@ -88,16 +91,25 @@ fn folded(mark: u64) -> u32
     ((mark ^ (mark >> 29)) % 4294967296) as u32
 }
 
-// The mark of the `n` bytes from the word `from` on.
+fn least(a: usize, b: usize) -> usize
+    ensures { λ r. ⌜ r ≡ least a b ⌝ }
+{
+    if a < b {
+        return a;
+    }
+    b
+}
+
+// The mark of the id of `n` bytes from the word `from` on. As many words are mixed for each, past the last one that again: so the loop has no test.
 fn mark_of(words: &[u64], from: usize, n: usize) -> u32
     requires { ⌜ (1 ≤ n) × (from + wordsHolding n ≤ length (now words)) ⌝ }
     ensures { λ r. ⌜ r ≡ markOf (now (words .entry)) from n ⌝ }
 {
-    let count = (n - 1) / WORD_BYTES + 1;
+    let last = (n - 1) / WORD_BYTES;
     let mut mark = n as u64;
     let mut q: usize = 0;
-    while q < count {
-        mark = mixed(mark, words[from + q]);
+    while q < BYTE_WORDS {
+        mark = mixed(mark, words[from + least(q, last)]);
         q += 1;
     }
     folded(mark)

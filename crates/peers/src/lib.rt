@@ -1,4 +1,5 @@
 // A channel's peer registrations: the services that the other end has registered with us, by the place of each one's id.
+use model::CHANNEL_COUNT;
 use model::FIRST_ID_WORD;
 use model::FIRST_PEER_WORD;
 use model::Found;
@@ -227,6 +228,19 @@ fn none_marked(state: &State, channel: usize) -> bool
         p += 1;
     }
     marks == 0
+}
+
+// No channel has a mark. All words are read here too, so that a state without registrations costs no more.
+pub fn none_registered(state: &State) -> bool
+    ensures { λ r. ⌜ r ≡ every channelCount (λ c. every mostIds (λ p. eqb (peeredAt (now (state .entry)) c p) 0)) ⌝ }
+{
+    let mut none = true;
+    let mut c: usize = 0;
+    while c < CHANNEL_COUNT {
+        none = none & none_marked(state, c);
+        c += 1;
+    }
+    none
 }
 
 // "a closed channel has no peer registrations, a ready one at most eight, whose handles lack that bit and differ there, as do their ids, each listed, with
