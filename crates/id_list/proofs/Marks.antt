@@ -8,18 +8,19 @@ use native.Mathlib.Nat.{not-suc-le-zero}
 use native.Mathlib.Omega.{arith}
 use lib.ListN.{length, getD, set, length-set}
 use lib.Seq.{getD-set-same, getD-set-other}
-use lib.Dec.{eqb, leb, ltb}
-use borrow.Author.Tests.{eqb-true, eqb-false, leb-true, leb-false, ltb-true, not-true}
+use lib.Dec.{eqb, leb}
+use borrow.Author.Tests.{eqb-true, eqb-false, leb-true, leb-false, not-true}
 use Rattle.model.specs.Choice.{every}
-use Rattle.model.specs.Layout.{idBytesIn, idIn, mostIdBytes, mostIds, wordBytes}
-use Rattle.model.specs.Devices.{sameName, wordsHolding}
+use Rattle.model.specs.Layout.{idBytesIn, idIn, mostIds, wordBytes}
+use Rattle.model.specs.Devices.{sameName}
 use Rattle.model.specs.Peers.{idApart, idKeeps}
-use Rattle.model.proofs.Choice.{clash, every-at, every-make, on-pick}
+use Rattle.model.proofs.Choice.{clash, every-at, every-make}
 use Rattle.model.proofs.Loops.{refute}
 use Rattle.names.specs.NameWords.{heldBytes, sameBytes}
 use Rattle.names.proofs.Bytes.{words-differ}
 use Rattle.names.proofs.Names.{lengths-differ, pair-words}
-use Rattle.id_list.specs.Marks.{Marked, apartAt, folded, least, markIn, markOf, marksApart, mixed, mixedWords}
+use Rattle.names.specs.Marks.{markOf, mixedWords}
+use Rattle.id_list.specs.Marks.{MarksStand, apartAt, folded, markIn, marksApart}
 use Rattle.id_list.proofs.Ids.{BytesRules, bytesFrom, bytes-rules, id-at, pair-same}
 
 -- numbers whose difference would refute a test
@@ -31,18 +32,18 @@ alike {b} v w t f = go (eqb v w) refl
     go false e = absurd (clash b (f (eqb-false v w e)) t)
 
 -- one mark more
-module _ (l : List ℕ) (at p : ℕ) (marks : List ℕ) (v : ℕ) (long : length marks ≡ 2 * mostIds) (few : p < mostIds) (m : Marked l at p marks) (e : v ≡ markIn l at p) where
+module _ (l : List ℕ) (at p : ℕ) (marks : List ℕ) (v : ℕ) (long : length marks ≡ 2 * mostIds) (few : p < mostIds) (m : MarksStand l at p marks) (e : v ≡ folded (markIn l at p)) where
   abbrev pub withMark : List ℕ
   withMark = set (set marks p v) (p + mostIds) v
 
   pub still-long : length withMark ≡ 2 * mostIds
   still-long = simp length-set long
 
-  pub marked-more : Marked l at (p + 1) withMark
+  pub marked-more : MarksStand l at (p + 1) withMark
   marked-more =
       record { first = λ k h. first k h (eqb k p) refl; again = λ k h. again k h (eqb k p) refl }
     where
-      first : (k : ℕ) → k < p + 1 → (b : Bool) → eqb k p ≡ b → getD withMark k 0 ≡ markIn l at k
+      first : (k : ℕ) → k < p + 1 → (b : Bool) → eqb k p ≡ b → getD withMark k 0 ≡ folded (markIn l at k)
       first k h true d =
           rw (eqb-true k p d)
           (getD-set-other (set marks p v) (p + mostIds) p v 0 (λ z. omega arith) ∙ getD-set-same marks p v 0 (omega arith) ∙ e)
@@ -52,7 +53,7 @@ module _ (l : List ℕ) (at p : ℕ) (marks : List ℕ) (v : ℕ) (long : length
           ∙ getD-set-other marks p k v 0 other
           ∙ m .first k (omega arith)
 
-      again : (k : ℕ) → k < p + 1 → (b : Bool) → eqb k p ≡ b → getD withMark (k + mostIds) 0 ≡ markIn l at k
+      again : (k : ℕ) → k < p + 1 → (b : Bool) → eqb k p ≡ b → getD withMark (k + mostIds) 0 ≡ folded (markIn l at k)
       again k h true d =
           rw (eqb-true k p d) (getD-set-same (set marks p v) (p + mostIds) v 0 (omega (arith, length-set marks p v)) ∙ e)
       again k h false d =
@@ -61,17 +62,13 @@ module _ (l : List ℕ) (at p : ℕ) (marks : List ℕ) (v : ℕ) (long : length
           ∙ getD-set-other marks p (k + mostIds) v 0 (λ z. omega arith)
           ∙ m .again k (omega arith)
 
-pub none-marked : (l : List ℕ) (at : ℕ) (marks : List ℕ) → Marked l at 0 marks
+pub none-marked : (l : List ℕ) (at : ℕ) (marks : List ℕ) → MarksStand l at 0 marks
 none-marked l at marks = record { first = λ p h. absurd (not-suc-le-zero h); again = λ p h. absurd (not-suc-le-zero h) }
 
-pub at-most : (a b : ℕ) → least a b ≤ b
-unfolding least
-at-most a b = on-pick (λ (m : ℕ). m ≤ b) (ltb a b) a b (λ t. let below = ltb-true a b t in omega arith) (λ t. omega arith)
-
-words-mixed : (l : List ℕ) (a b last m k : ℕ) → ((q : ℕ) → q < last + 1 → getD l (a + q) 0 ≡ getD l (b + q) 0) → mixedWords l a last m k ≡ mixedWords l b last m k
+words-mixed : (l : List ℕ) (a b m k : ℕ) → ((q : ℕ) → q < k → getD l (a + q) 0 ≡ getD l (b + q) 0) → mixedWords l a m k ≡ mixedWords l b m k
 unfolding mixedWords
-words-mixed l a b last m zero h = refl
-words-mixed l a b last m (suc k) h = rw (words-mixed l a b last m k h, h (least k last) (omega (arith, at-most k last)))
+words-mixed l a b m zero h = refl
+words-mixed l a b m (suc k) h = rw (words-mixed l a b m k (λ q j. h q (omega arith)), h k (omega arith))
 
 module _ (l : List ℕ) (fits : (k : ℕ) → getD l k 0 < 256 ^ wordBytes) (at : ℕ) where
   same-mark : (p q : ℕ) → BytesRules l at p → BytesRules l at q → sameName (idIn l at q .bytes) (idIn l at p .bytes) ≡ true → markIn l at q ≡ markIn l at p
@@ -80,11 +77,10 @@ module _ (l : List ℕ) (fits : (k : ℕ) → getD l k 0 < 256 ^ wordBytes) (at 
       let s = pair-same l at p q ∙ t in
       let n : idBytesIn l at q ≡ idBytesIn l at p = alike _ _ s (λ d. sym (lengths-differ l (bytesFrom at q) (idBytesIn l at q) (bytesFrom at p) (idBytesIn l at p) d)) in
       let w = pair-words l (bytesFrom at q) (idBytesIn l at q) (bytesFrom at p) (idBytesIn l at p) (rq .some) (rq .padding) (rp .padding) n ∙ s in
-      ap folded
-      (words-mixed l _ _ _ _ _ (λ k h. alike _ _ (every-at _ _ k w h) (words-differ _ _ (fits _) (fits _)))
-      ∙ ap (λ (m : ℕ). mixedWords l (bytesFrom at p) ((m - 1) / wordBytes) m (wordsHolding mostIdBytes)) n)
+      words-mixed l _ _ _ _ (λ k h. alike _ _ (every-at _ _ k w h) (words-differ _ _ (fits _) (fits _)))
+      ∙ ap (λ (m : ℕ). mixedWords l (bytesFrom at p) m ((m - 1) / wordBytes + 1)) n
 
-  module _ (n : ℕ) (few : n ≤ mostIds) (each : every n (idKeeps l at) ≡ true) (marks : List ℕ) (marked : Marked l at n marks) (apart : marksApart marks ≡ true) where
+  module _ (n : ℕ) (few : n ≤ mostIds) (each : every n (idKeeps l at) ≡ true) (marks : List ℕ) (marked : MarksStand l at n marks) (apart : marksApart marks ≡ true) where
     -- a mark is not the one at a distance up to half of them
     at-distance : (k j : ℕ) → k < mostIds → k < j → j ≤ k + mostIds / 2 → getD marks k 0 ≡ getD marks j 0 → ⊥
     unfolding marksApart apartAt
@@ -93,7 +89,7 @@ module _ (l : List ℕ) (fits : (k : ℕ) → getD l k 0 < 256 ^ wordBytes) (at 
         eqb-false _ _ (not-true _ (every-at _ mostIds k (every-at _ (mostIds / 2) (j - k - 1) apart (omega arith)) few))
         (e ∙ ap (λ (i : ℕ). getD marks i 0) (sym there))
 
-    marks-differ : (p q : ℕ) → p < n → q < p → markIn l at q ≡ markIn l at p → ⊥
+    marks-differ : (p q : ℕ) → p < n → q < p → folded (markIn l at q) ≡ folded (markIn l at p) → ⊥
     marks-differ p q h below e = go (leb p (q + mostIds / 2)) refl
       where
         go : (b : Bool) → leb p (q + mostIds / 2) ≡ b → ⊥
@@ -108,4 +104,4 @@ module _ (l : List ℕ) (fits : (k : ℕ) → getD l k 0 < 256 ^ wordBytes) (at 
     marks-decide =
         every-make _ n
         (λ p h. every-make _ p
-        (λ q below. ap not (sym (refute _ (λ t. marks-differ p q h below (same-mark p q (bytes-rules _ _ _ (id-at l at n p each h)) (bytes-rules _ _ _ (id-at l at n q each (omega arith))) t))))))
+        (λ q below. ap not (sym (refute _ (λ t. marks-differ p q h below (ap folded (same-mark p q (bytes-rules _ _ _ (id-at l at n p each h)) (bytes-rules _ _ _ (id-at l at n q each (omega arith))) t)))))))

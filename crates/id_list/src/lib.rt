@@ -10,31 +10,36 @@ use model::ID_WORDS;
 use model::MOST_ID_BYTES;
 use model::MOST_IDS;
 use model::State;
-use model::WORD_BYTES;
+use names::Marked;
 ghost use mathlib.Core.Path.{_≡_};
 ghost use mathlib.Core.Bool.{true};
 ghost use Prim.Native.Nat.{_+_, _*_, _≤_, _<_};
 ghost use lib.ListN.{length};
 ghost use Rattle.model.specs.Choice.{every};
 ghost use Rattle.model.specs.Layout.{firstIdWord, idAt, idsOf, idWords, mostIds};
-ghost use Rattle.model.specs.Devices.{wordsHolding};
 ghost use Rattle.model.specs.Peers.{acceptedIds, idApart, idKeeps, idsKeep, listedId};
-ghost use Rattle.id_list.specs.Marks.{Marked, apartAt, folded, least, markOf, marksApart, mixed};
+ghost use Rattle.id_list.specs.Marks.{MarksStand, apartAt, folded, markIn, marksApart};
 
-// The rules of one id: a major and a highest minor of 16 bits, and its bytes.
-fn id_keeps(words: &[u64], at: usize, p: usize) -> bool
+// The rules of one id: a major and a highest minor of 16 bits, and its bytes. With its mark.
+fn marked_id(words: &[u64], at: usize, p: usize) -> Marked
     requires { ⌜ at + p * idWords + idWords ≤ length (now words) ⌝ }
-    ensures { λ r. ⌜ r ≡ idKeeps (now (words .entry)) at p ⌝ }
+    ensures { λ r. ⌜ (r .keeps ≡ idKeeps (now (words .entry)) at p) × (r .keeps ≡ true → r .mark ≡ markIn (now (words .entry)) at p) ⌝ }
 {
     let d = at + p * ID_WORDS;
     if HIGHEST_MINOR < words[d] {
-        return false;
+        return Marked {
+            keeps: false,
+            mark: 0,
+        };
     }
     if HIGHEST_MINOR < words[d + ID_MINOR_PLACE] {
-        return false;
+        return Marked {
+            keeps: false,
+            mark: 0,
+        };
     }
     let n = words[d + ID_BYTES_PLACE] as usize;
-    names::holds_name(words, d + ID_PLACE, n, MOST_ID_BYTES)
+    names::marked_name(words, d + ID_PLACE, n, MOST_ID_BYTES)
 }
 
 // No id before the one at place `p` has its bytes.
@@ -74,59 +79,26 @@ fn each_apart(words: &[u64], at: usize, n: usize) -> bool
 // A mark stands twice, so that each stands beside each other one at a distance up to half of them.
 type Marks = [u32; 2 * MOST_IDS];
 
-// The words that the bytes of an id may take.
-const BYTE_WORDS: usize = ID_WORDS - ID_PLACE;
-
-// One word more in a mark, turned first, so that words in another order give another one.
-fn mixed(mark: u64, word: u64) -> u64
-    ensures { λ r. ⌜ r ≡ mixed mark word ⌝ }
-{
-    ((mark << 25) | (mark >> 39)) ^ word
-}
-
-// 32 bits of it.
+// The 32 bits of a name's mark.
 fn folded(mark: u64) -> u32
     ensures { λ r. ⌜ r ≡ folded mark ⌝ }
 {
     ((mark ^ (mark >> 29)) % 4294967296) as u32
 }
 
-fn least(a: usize, b: usize) -> usize
-    ensures { λ r. ⌜ r ≡ least a b ⌝ }
-{
-    if a < b {
-        return a;
-    }
-    b
-}
-
-// The mark of the id of `n` bytes from the word `from` on. As many words are mixed for each, past the last one that again: so the loop has no test.
-fn mark_of(words: &[u64], from: usize, n: usize) -> u32
-    requires { ⌜ (1 ≤ n) × (from + wordsHolding n ≤ length (now words)) ⌝ }
-    ensures { λ r. ⌜ r ≡ markOf (now (words .entry)) from n ⌝ }
-{
-    let last = (n - 1) / WORD_BYTES;
-    let mut mark = n as u64;
-    let mut q: usize = 0;
-    while q < BYTE_WORDS {
-        mark = mixed(mark, words[from + least(q, last)]);
-        q += 1;
-    }
-    folded(mark)
-}
-
 // The ids keep the rules, each by itself; where they do, their marks are written.
 fn each_keeps(words: &[u64], at: usize, n: usize, marks: &mut Marks) -> bool
     requires { ⌜ (n ≤ mostIds) × (at + n * idWords ≤ length (now words)) × (length (now marks) ≡ 2 * mostIds) ⌝ }
-    ensures { λ r. ⌜ (r ≡ every n (idKeeps (now (words .entry)) at)) × (r ≡ true → Marked (now (words .entry)) at n (now (marks .exit))) ⌝ }
+    ensures { λ r. ⌜ (r ≡ every n (idKeeps (now (words .entry)) at)) × (r ≡ true → MarksStand (now (words .entry)) at n (now (marks .exit))) ⌝ }
 {
     let mut p: usize = 0;
     while p < n {
-        if !id_keeps(words, at, p) {
+        let id = marked_id(words, at, p);
+        let keeps = id.keeps;
+        if !keeps {
             return false;
         }
-        let d = at + p * ID_WORDS;
-        let mark = mark_of(words, d + ID_PLACE, words[d + ID_BYTES_PLACE] as usize);
+        let mark = folded(id.mark);
         marks[p] = mark;
         marks[p + MOST_IDS] = mark;
         p += 1;

@@ -171,15 +171,15 @@ fn each_sound(state: &State, channel: usize) -> bool
     true
 }
 
-// Id q is not registered, or not under the handle.
+// Id q is not registered, or not under the handle, which is looked at first, since few are the same.
 fn differs(state: &State, channel: usize, q: usize, handle: u64) -> bool
     requires { ⌜ (channel < channelCount) × (q < mostIds) ⌝ }
     ensures { λ r. ⌜ r ≡ (eqb (peeredAt (now (state .entry)) channel q) 0 or not (eqb (peerHandleAt (now (state .entry)) channel q) handle)) ⌝ }
 {
-    if mark_of(state, channel, q) == 0 {
+    if handle_of(state, channel, q) != handle {
         return true;
     }
-    handle_of(state, channel, q) != handle
+    mark_of(state, channel, q) == 0
 }
 
 // "and differ there": id p's handle from those registered before it.
