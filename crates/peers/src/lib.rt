@@ -201,7 +201,7 @@ fn peer_apart(state: &State, channel: usize, p: usize) -> bool
     true
 }
 
-fn handles_apart(state: &State, channel: usize) -> bool
+fn registered_apart(state: &State, channel: usize) -> bool
     requires { ⌜ channel < channelCount ⌝ }
     ensures { λ r. ⌜ r ≡ every mostIds (peerApart (now (state .entry)) channel) ⌝ }
 {
@@ -213,6 +213,49 @@ fn handles_apart(state: &State, channel: usize) -> bool
         p += 1;
     }
     true
+}
+
+// A quick test: id p is not registered, or no id before it has its handle, registered or not.
+fn handle_alone(state: &State, channel: usize, p: usize) -> bool
+    requires { ⌜ (channel < channelCount) × (p < mostIds) ⌝ }
+    ensures { λ r. ⌜ (r ≡ true → peerApart (now (state .entry)) channel p ≡ true) ⌝ }
+{
+    if mark_of(state, channel, p) == 0 {
+        return true;
+    }
+    let handle = handle_of(state, channel, p);
+    let mut j: usize = 0;
+    while j < p {
+        if handle_of(state, channel, j) == handle {
+            return false;
+        }
+        j += 1;
+    }
+    true
+}
+
+fn handles_alone(state: &State, channel: usize) -> bool
+    requires { ⌜ channel < channelCount ⌝ }
+    ensures { λ r. ⌜ (r ≡ true → every mostIds (peerApart (now (state .entry)) channel) ≡ true) ⌝ }
+{
+    let mut p: usize = 0;
+    while p < MOST_IDS {
+        if !handle_alone(state, channel, p) {
+            return false;
+        }
+        p += 1;
+    }
+    true
+}
+
+fn handles_apart(state: &State, channel: usize) -> bool
+    requires { ⌜ channel < channelCount ⌝ }
+    ensures { λ r. ⌜ r ≡ every mostIds (peerApart (now (state .entry)) channel) ⌝ }
+{
+    if handles_alone(state, channel) {
+        return true;
+    }
+    registered_apart(state, channel)
 }
 
 // The channel has no mark: one look at each word, which is all that a channel without registrations costs. All of them are read: a loop without another way out
