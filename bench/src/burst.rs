@@ -16,7 +16,7 @@ const DRAINS: u64 = 100_000_u64.div_ceil(FULL);
 /// The states of a cold one.
 const STATES: usize = 6_250;
 const WARM_ROUNDS: usize = 40;
-const COLD_ROUNDS: usize = 5;
+const COLD_ROUNDS: usize = 12;
 /// Full journals that are drained one behind the other, for one look at the clock.
 const COPIES: usize = 8;
 
