@@ -1,12 +1,14 @@
 //! The benchmark of ticket 11's burst: queries of one record on one channel, and
 //! a drain whenever 64 entries are held. No buffer is cleared between calls. Warm,
-//! one state takes all 100,032; cold, 6,250 states take 64 each in turn, so that
-//! each call finds its state, journal and output out of the caches: together they
-//! are larger than the last one. The states are restored outside the time taken,
-//! the two agents take turns, and the fastest round of each counts.
+//! one state takes all 100,032; cold, 1,563 states take one each in turn, 64 times,
+//! and before each turn other words are read, outside the time taken, that fill
+//! all caches: each call finds its state, journal and output in none of them. The
+//! states are restored outside the time taken, the two agents take turns, and the
+//! fastest round of each counts.
 
 use crate::{print_head, print_row, request};
 use crate::{Agent, Devices, Host, Independent, Peers, Proved, MEMORY, QUERY};
+use std::hint::black_box;
 use std::time::Instant;
 
 /// The entries at which the journal is full and is drained.
@@ -14,9 +16,11 @@ const FULL: u64 = 64;
 /// The drains of a warm burst of 100,000 queries.
 const DRAINS: u64 = 100_000_u64.div_ceil(FULL);
 /// The states of a cold one.
-const STATES: usize = 6_250;
+const STATES: usize = DRAINS as usize;
+/// The words that are read to fill the caches, 128 MB.
+const OTHERS: usize = 1 << 24;
 const WARM_ROUNDS: usize = 40;
-const COLD_ROUNDS: usize = 12;
+const COLD_ROUNDS: usize = 6;
 /// Full journals that are drained one behind the other, for one look at the clock.
 const COPIES: usize = 8;
 
@@ -121,13 +125,15 @@ fn warm<A: Agent>(host: &mut Host<A>, queries: &[Vec<u8>]) -> Times {
 }
 
 /// 64 queries to each state in turn, then a drain of each.
-fn cold<A: Agent>(hosts: &mut [Host<A>], queries: &[Vec<u8>]) -> Times {
+fn cold<A: Agent>(hosts: &mut [Host<A>], queries: &[Vec<u8>], others: &[u64]) -> Times {
     let saved = hosts[0].state;
-    let receive = nanoseconds(|| {
-        for query in queries {
-            hosts.iter_mut().for_each(|host| host.receive(0, query));
-        }
-    });
+    let fill = || black_box(others.iter().fold(0, |all, word| all ^ word));
+    let mut receive = 0.0;
+    for query in queries {
+        fill();
+        receive += nanoseconds(|| hosts.iter_mut().for_each(|host| host.receive(0, query)));
+    }
+    fill();
     let drain = nanoseconds(|| hosts.iter_mut().for_each(Host::drain_all));
     hosts.iter_mut().for_each(|host| host.state = saved);
     let count = (queries.len() * hosts.len()) as f64;
@@ -172,10 +178,11 @@ fn run_cold(lists: Lists) {
     let queries: Vec<_> = (0..FULL).map(|n| lists.query(n)).collect();
     let mut ours: Vec<_> = (0..STATES).map(|_| lists.host::<Proved>()).collect();
     let mut theirs: Vec<_> = (0..STATES).map(|_| lists.host::<Independent>()).collect();
+    let others: Vec<u64> = (0..OTHERS as u64).collect();
     let (mut least, mut least_theirs) = (Times::NONE, Times::NONE);
     for _ in 0..COLD_ROUNDS {
-        least = least.least(cold(&mut ours, &queries));
-        least_theirs = least_theirs.least(cold(&mut theirs, &queries));
+        least = least.least(cold(&mut ours, &queries, &others));
+        least_theirs = least_theirs.least(cold(&mut theirs, &queries, &others));
     }
     let same = ours
         .iter()
