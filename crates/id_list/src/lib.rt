@@ -10,7 +10,7 @@ use model::ID_WORDS;
 use model::MOST_ID_BYTES;
 use model::MOST_IDS;
 use model::State;
-use names::Marked;
+use names::Hashed;
 ghost use mathlib.Core.Path.{_≡_};
 ghost use mathlib.Core.Bool.{true};
 ghost use Prim.Native.Nat.{_+_, _*_, _≤_, _<_};
@@ -18,28 +18,28 @@ ghost use lib.ListN.{length};
 ghost use Rattle.model.specs.Choice.{every};
 ghost use Rattle.model.specs.Layout.{firstIdWord, idAt, idsOf, idWords, mostIds};
 ghost use Rattle.model.specs.Peers.{acceptedIds, idApart, idKeeps, idsKeep, listedId};
-ghost use Rattle.id_list.specs.Marks.{MarksStand, apartAt, folded, markIn, marksApart};
+ghost use Rattle.id_list.specs.Hashes.{HashesStand, apartAt, folded, hashIn, hashesApart};
 
-// The rules of one id: a major and a highest minor of 16 bits, and its bytes. With its mark.
-fn marked_id(words: &[u64], at: usize, p: usize) -> Marked
+// The rules of one id: a major and a highest minor of 16 bits, and its bytes. With its hash.
+fn hashed_id(words: &[u64], at: usize, p: usize) -> Hashed
     requires { ⌜ at + p * idWords + idWords ≤ length (now words) ⌝ }
-    ensures { λ r. ⌜ (r .keeps ≡ idKeeps (now (words .entry)) at p) × (r .keeps ≡ true → r .mark ≡ markIn (now (words .entry)) at p) ⌝ }
+    ensures { λ r. ⌜ (r .keeps ≡ idKeeps (now (words .entry)) at p) × (r .keeps ≡ true → r .hash ≡ hashIn (now (words .entry)) at p) ⌝ }
 {
     let d = at + p * ID_WORDS;
     if HIGHEST_MINOR < words[d] {
-        return Marked {
+        return Hashed {
             keeps: false,
-            mark: 0,
+            hash: 0,
         };
     }
     if HIGHEST_MINOR < words[d + ID_MINOR_PLACE] {
-        return Marked {
+        return Hashed {
             keeps: false,
-            mark: 0,
+            hash: 0,
         };
     }
     let n = words[d + ID_BYTES_PLACE] as usize;
-    names::marked_name(words, d + ID_PLACE, n, MOST_ID_BYTES)
+    names::hashed_name(words, d + ID_PLACE, n, MOST_ID_BYTES)
 }
 
 // No id before the one at place `p` has its bytes.
@@ -75,76 +75,76 @@ fn each_apart(words: &[u64], at: usize, n: usize) -> bool
     true
 }
 
-// Every call of the agent tests the whole list. So that not each pair of ids is compared, each has a mark of 32 bits; ids are compared only where two marks are the same.
-// A mark stands twice, so that each stands beside each other one at a distance up to half of them.
-type Marks = [u32; 2 * MOST_IDS];
+// Every call of the agent tests the whole list. So that not each pair of ids is compared, each has a hash of 32 bits; ids are compared only where two hashes are the same.
+// A hash stands twice, so that each stands beside each other one at a distance up to half of them.
+type Hashes = [u32; 2 * MOST_IDS];
 
-// The 32 bits of a name's mark.
-fn folded(mark: u64) -> u32
-    ensures { λ r. ⌜ r ≡ folded mark ⌝ }
+// The 32 bits of a name's hash.
+fn folded(hash: u64) -> u32
+    ensures { λ r. ⌜ r ≡ folded hash ⌝ }
 {
-    ((mark ^ (mark >> 29)) % 4294967296) as u32
+    ((hash ^ (hash >> 29)) % 4294967296) as u32
 }
 
-// The ids keep the rules, each by itself; where they do, their marks are written.
-fn each_keeps(words: &[u64], at: usize, n: usize, marks: &mut Marks) -> bool
-    requires { ⌜ (n ≤ mostIds) × (at + n * idWords ≤ length (now words)) × (length (now marks) ≡ 2 * mostIds) ⌝ }
-    ensures { λ r. ⌜ (r ≡ every n (idKeeps (now (words .entry)) at)) × (r ≡ true → MarksStand (now (words .entry)) at n (now (marks .exit))) ⌝ }
+// The ids keep the rules, each by itself; where they do, their hashes are written.
+fn each_keeps(words: &[u64], at: usize, n: usize, hashes: &mut Hashes) -> bool
+    requires { ⌜ (n ≤ mostIds) × (at + n * idWords ≤ length (now words)) × (length (now hashes) ≡ 2 * mostIds) ⌝ }
+    ensures { λ r. ⌜ (r ≡ every n (idKeeps (now (words .entry)) at)) × (r ≡ true → HashesStand (now (words .entry)) at n (now (hashes .exit))) ⌝ }
 {
     let mut p: usize = 0;
     while p < n {
-        let id = marked_id(words, at, p);
+        let id = hashed_id(words, at, p);
         let keeps = id.keeps;
         if !keeps {
             return false;
         }
-        let mark = folded(id.mark);
-        marks[p] = mark;
-        marks[p + MOST_IDS] = mark;
+        let hash = folded(id.hash);
+        hashes[p] = hash;
+        hashes[p + MOST_IDS] = hash;
         p += 1;
     }
     true
 }
 
-// No mark is the one so many places on. All of them are read: a loop without another way out takes several marks a turn.
-fn apart_at(marks: &Marks, distance: usize) -> bool
+// No hash is the one so many places on. All of them are read: a loop without another way out takes several hashes a turn.
+fn apart_at(hashes: &Hashes, distance: usize) -> bool
     requires { ⌜ distance ≤ mostIds ⌝ }
-    ensures { λ r. ⌜ r ≡ apartAt (now (marks .entry)) distance ⌝ }
+    ensures { λ r. ⌜ r ≡ apartAt (now (hashes .entry)) distance ⌝ }
 {
     let mut apart = true;
     let mut k: usize = 0;
     while k < MOST_IDS {
-        apart = apart & (marks[k] != marks[k + distance]);
+        apart = apart & (hashes[k] != hashes[k + distance]);
         k += 1;
     }
     apart
 }
 
-// No two marks are the same.
-fn marks_apart(marks: &Marks) -> bool
-    ensures { λ r. ⌜ r ≡ marksApart (now (marks .entry)) ⌝ }
+// No two hashes are the same.
+fn hashes_apart(hashes: &Hashes) -> bool
+    ensures { λ r. ⌜ r ≡ hashesApart (now (hashes .entry)) ⌝ }
 {
     let mut apart = true;
     let mut d: usize = 0;
     while d < MOST_IDS / 2 {
-        apart = apart & apart_at(marks, d + 1);
+        apart = apart & apart_at(hashes, d + 1);
         d += 1;
     }
     apart
 }
 
-// Marks that differ, for the places past the last id.
-fn first_marks() -> Marks
+// Hashes that differ, for the places past the last id.
+fn first_hashes() -> Hashes
     ensures { λ r. ⌜ length r ≡ 2 * mostIds ⌝ }
 {
-    let mut marks: Marks = [0; 2 * MOST_IDS];
+    let mut hashes: Hashes = [0; 2 * MOST_IDS];
     let mut p: usize = 0;
     while p < MOST_IDS {
-        marks[p] = p as u32;
-        marks[p + MOST_IDS] = p as u32;
+        hashes[p] = p as u32;
+        hashes[p + MOST_IDS] = p as u32;
         p += 1;
     }
-    marks
+    hashes
 }
 
 // The ids keep the rules, and differ.
@@ -152,11 +152,11 @@ fn keep_apart(words: &[u64], at: usize, n: usize) -> bool
     requires { ⌜ (n ≤ mostIds) × (at + n * idWords ≤ length (now words)) ⌝ }
     ensures { λ r. ⌜ r ≡ idsKeep (now (words .entry)) at n ⌝ }
 {
-    let mut marks = first_marks();
-    if !each_keeps(words, at, n, &mut marks) {
+    let mut hashes = first_hashes();
+    if !each_keeps(words, at, n, &mut hashes) {
         return false;
     }
-    if marks_apart(&marks) {
+    if hashes_apart(&hashes) {
         return true;
     }
     each_apart(words, at, n)

@@ -1,4 +1,4 @@
--- `id_list::apart_at` meets its contract: no mark passed is the one so many places on.
+-- `id_list::apart_at` meets its contract: no hash passed is the one so many places on.
 -- Assumes nothing.
 use native.Mathlib.Omega.{arith}
 use mathlib.Core.Bool.{not}
@@ -10,15 +10,15 @@ use lib.Dec.{eqb}
 use Rattle.model.specs.Choice.{every}
 use Rattle.model.specs.Layout.{mostIds}
 use Rattle.names.proofs.Bytes.{both-pass}
-use Rattle.id_list.specs.Marks.{apartAt}
+use Rattle.id_list.specs.Hashes.{apartAt}
 use Rattle.id_list.proofs.apart_at.Statement.{statement}
 use Rattle.id_list.proofs.apart_at.Tie as tie
 
 abbrev Inv-loop : tie.InvT-loop
-Inv-loop marks distance apart₀ k₀ apart k = (k ≤ mostIds) × (apart ≡ every k (λ j. not (eqb (getD marks j 0) (getD marks (j + distance) 0))))
+Inv-loop hashes distance apart₀ k₀ apart k = (k ≤ mostIds) × (apart ≡ every k (λ j. not (eqb (getD hashes j 0) (getD hashes (j + distance) 0))))
 
 abbrev μ-loop : tie.MeasureT-loop
-μ-loop marks distance apart₀ k₀ apart k = mostIds - k
+μ-loop hashes distance apart₀ k₀ apart k = mostIds - k
 
 loop-holds : tie.Need-loop-holds Inv-loop μ-loop
 unfolding every
@@ -49,7 +49,7 @@ loop-again : tie.Need-loop-again Inv-loop μ-loop
 unfolding every
 loop-again c = let l = c .before .before .before .loop in
     let a = c .before .before .before .before .args in
-    (omega arith, both-pass (l .apart) (not (eqb (getD (a .marks .now) (l .k) 0) (getD (a .marks .now) (l .k + a .distance) 0))) ∙ rw (l .inv .1, add-one))
+    (omega arith, both-pass (l .apart) (not (eqb (getD (a .hashes .now) (l .k) 0) (getD (a .hashes .now) (l .k + a .distance) 0))) ∙ rw (l .inv .1, add-one))
 
 returns : tie.Need-returns Inv-loop μ-loop
 unfolding apartAt

@@ -2,7 +2,7 @@
 -- Assumes nothing.
 use mathlib.Core.Path.{refl}
 use borrow.Author.Needs.{needs}
-use Rattle.id_list.specs.Marks.{folded}
+use Rattle.id_list.specs.Hashes.{folded}
 use Rattle.id_list.proofs.folded.Statement.{statement}
 use Rattle.id_list.proofs.folded.Tie as tie
 

@@ -1,7 +1,7 @@
 -- `names::mixed` meets its contract: it computes what the definition says.
 -- Assumes nothing.
 use mathlib.Core.Path.{refl}
-use Rattle.names.specs.Marks.{mixed}
+use Rattle.names.specs.Hashes.{mixed}
 use Rattle.names.proofs.mixed.Statement.{statement}
 use Rattle.names.proofs.mixed.Tie as tie
 

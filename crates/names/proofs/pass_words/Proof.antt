@@ -8,16 +8,16 @@ use lib.ListN.{getD}
 use lib.Dec.{eqb}
 use Rattle.model.specs.Choice.{every}
 use Rattle.names.specs.NameWords.{wholeWord}
-use Rattle.names.specs.Marks.{mixedWords}
+use Rattle.names.specs.Hashes.{mixedWords}
 use Rattle.names.proofs.Zeros.{or-none}
 use Rattle.names.proofs.pass_words.Statement.{statement}
 use Rattle.names.proofs.pass_words.Tie as tie
 
 abbrev Inv-loop : tie.InvT-loop
-Inv-loop words from n first zeros₀ mark₀ q₀ zeros mark q = (q ≤ n) × (eqb zeros 0 ≡ every q (λ j. wholeWord (getD words (from + j) 0))) × (mark ≡ mixedWords words from first q)
+Inv-loop words from n first zeros₀ hash₀ q₀ zeros hash q = (q ≤ n) × (eqb zeros 0 ≡ every q (λ j. wholeWord (getD words (from + j) 0))) × (hash ≡ mixedWords words from first q)
 
 abbrev μ-loop : tie.MeasureT-loop
-μ-loop words from n first zeros₀ mark₀ q₀ zeros mark q = n - q
+μ-loop words from n first zeros₀ hash₀ q₀ zeros hash q = n - q
 
 loop-holds : tie.Need-loop-holds Inv-loop μ-loop
 unfolding every mixedWords

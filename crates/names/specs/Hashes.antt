@@ -1,4 +1,4 @@
--- A mark of the bytes that words hold. The same bytes have the same mark, which is all that is proved of it; others hardly ever do.
+-- A hash of the bytes that words hold. The same bytes have the same hash, which is all that is proved of it; others hardly ever do.
 -- Assumes nothing.
 use Prim.Native.Nat.{ℕ, zero, suc, _+_, _-_, _*_, _/_, _%_, _^_}
 use mathlib.Core.List.{List}
@@ -6,7 +6,7 @@ use lib.Bits.{bitOr, bitXor}
 use lib.ListN.{getD}
 use Rattle.model.specs.Layout.{wordBytes}
 
--- one word more in a mark
+-- one word more in a hash
 unfoldable pub mixed : ℕ → ℕ → ℕ
 mixed m w = bitXor (bitOr (m * 2 ^ 25 % 2 ^ 64) (m / 2 ^ 39)) w
 
@@ -16,5 +16,5 @@ mixedWords l from m zero = m
 mixedWords l from m (suc k) = mixed (mixedWords l from m k) (getD l (from + k) 0)
 
 -- the name of n bytes from the word `from` on: their number, and the words that hold them
-unfoldable pub markOf : List ℕ → ℕ → ℕ → ℕ
-markOf l from n = mixedWords l from n ((n - 1) / wordBytes + 1)
+unfoldable pub hashOf : List ℕ → ℕ → ℕ → ℕ
+hashOf l from n = mixedWords l from n ((n - 1) / wordBytes + 1)

@@ -1,4 +1,4 @@
--- `id_list::marks_apart` meets its contract: no mark is the one at a distance passed.
+-- `id_list::hashes_apart` meets its contract: no hash is the one at a distance passed.
 -- Assumes nothing.
 use native.Mathlib.Omega.{arith}
 use mathlib.Core.Path.{_≡_, refl, _∙_}
@@ -7,15 +7,15 @@ use native.Mathlib.Numerals.{add-one}
 use Rattle.model.specs.Choice.{every}
 use Rattle.model.specs.Layout.{mostIds}
 use Rattle.names.proofs.Bytes.{both-pass}
-use Rattle.id_list.specs.Marks.{apartAt, marksApart}
-use Rattle.id_list.proofs.marks_apart.Statement.{statement}
-use Rattle.id_list.proofs.marks_apart.Tie as tie
+use Rattle.id_list.specs.Hashes.{apartAt, hashesApart}
+use Rattle.id_list.proofs.hashes_apart.Statement.{statement}
+use Rattle.id_list.proofs.hashes_apart.Tie as tie
 
 abbrev Inv-loop : tie.InvT-loop
-Inv-loop marks apart₀ d₀ apart d = (d ≤ mostIds / 2) × (apart ≡ every d (λ j. apartAt marks (j + 1)))
+Inv-loop hashes apart₀ d₀ apart d = (d ≤ mostIds / 2) × (apart ≡ every d (λ j. apartAt hashes (j + 1)))
 
 abbrev μ-loop : tie.MeasureT-loop
-μ-loop marks apart₀ d₀ apart d = mostIds / 2 - d
+μ-loop hashes apart₀ d₀ apart d = mostIds / 2 - d
 
 loop-holds : tie.Need-loop-holds Inv-loop μ-loop
 unfolding every
@@ -39,12 +39,12 @@ loop-again c = let l = c .before .before .loop in
     (omega arith, both-pass (l .apart) (c .apart-at .result) ∙ rw (l .inv .1, add-one, c .apart-at .ensures))
 
 returns : tie.Need-returns Inv-loop μ-loop
-unfolding marksApart
+unfolding hashesApart
 returns c = let past : c .before .loop .d ≡ mostIds / 2 = omega (arith, c .before .loop .inv .0, c .loop-test .left) in
     c .before .loop .inv .1 ∙ rw past
 
-pub marks-apart-spec : {M : Type 1} → statement M
-marks-apart-spec =
+pub hashes-apart-spec : {M : Type 1} → statement M
+hashes-apart-spec =
     tie.close
     (tie.spec
     Inv-loop

@@ -1,4 +1,4 @@
--- `names::marked_name` meets its contract: a length out of bounds breaks the rules, past it the words decide, and all of them are mixed.
+-- `names::hashed_name` meets its contract: a length out of bounds breaks the rules, past it the words decide, and all of them are mixed.
 -- Assumes nothing.
 use native.Mathlib.Omega.{arith}
 use mathlib.Core.Path.{refl, sym, _∙_}
@@ -7,12 +7,12 @@ use native.Mathlib.Numerals.{add-one}
 use borrow.Author.Tests.{eq-eqb, ne-eqb}
 use Rattle.model.proofs.Choice.{and-false, clash}
 use Rattle.model.proofs.Loops.{refute}
-use Rattle.names.specs.Marks.{markOf, mixedWords}
+use Rattle.names.specs.Hashes.{hashOf, mixedWords}
 use Rattle.names.proofs.Bytes.{and-next}
 use Rattle.names.proofs.Names.{name-rules, name-words}
 use borrow.Author.Needs.{needs}
-use Rattle.names.proofs.marked_name.Statement.{statement}
-use Rattle.names.proofs.marked_name.Tie as tie
+use Rattle.names.proofs.hashed_name.Statement.{statement}
+use Rattle.names.proofs.hashed_name.Tie as tie
 
 -- the name has a byte
 some : (c : tie.After-pass-words) → 1 ≤ c .before .before .before .before .args .n
@@ -53,14 +53,14 @@ mixed-requires : tie.Need-mixed-requires
 mixed-requires c κs = search needs
 
 returns-4 : tie.Need-returns-4
-unfolding markOf mixedWords
+unfolding hashOf mixedWords
 returns-4 c = let e = c .before .before .before in
     let p = e .before .before in
     let passed = p .pass-words .ensures in
     (c .before .last-word-keeps .ensures ∙ sym (and-next _ _ (sym (passed .0) ∙ eq-eqb _ 0 (e .if3 .left))) ∙ name-words _ _ _ _ (some p) (p .before .if2 .left), λ t. c .mixed .ensures ∙ rw (passed .1, add-one))
 
-pub marked-name-spec : {M : Type 1} → statement M
-marked-name-spec =
+pub hashed-name-spec : {M : Type 1} → statement M
+hashed-name-spec =
     tie.close
     (tie.spec
     returns

@@ -1,4 +1,4 @@
--- `id_list::marked_id` meets its contract: a version above 16 bits breaks the rules, and past them the bytes decide, whose mark is the id's.
+-- `id_list::hashed_id` meets its contract: a version above 16 bits breaks the rules, and past them the bytes decide, whose hash is the id's.
 -- Assumes nothing.
 use mathlib.Core.Path.{refl, _∙_}
 use Rattle.model.specs.Layout.{idIn}
@@ -6,8 +6,8 @@ use Rattle.model.proofs.Choice.{clash}
 use Rattle.model.proofs.Loops.{refute}
 use Rattle.id_list.proofs.Ids.{id-rules, id-last}
 use native.Mathlib.Omega.{arith}
-use Rattle.id_list.proofs.marked_id.Statement.{statement}
-use Rattle.id_list.proofs.marked_id.Tie as tie
+use Rattle.id_list.proofs.hashed_id.Statement.{statement}
+use Rattle.id_list.proofs.hashed_id.Tie as tie
 
 mul-d : tie.Need-mul-d
 mul-d c = omega arith
@@ -47,20 +47,20 @@ mul-n c = omega arith
 shared-slice-read-n : tie.Need-shared-slice-read-n
 shared-slice-read-n c = omega arith
 
-add-marked-name : tie.Need-add-marked-name
-add-marked-name c = omega arith
+add-hashed-name : tie.Need-add-hashed-name
+add-hashed-name c = omega arith
 
-marked-name-requires : tie.Need-marked-name-requires
-marked-name-requires c κs = omega arith
+hashed-name-requires : tie.Need-hashed-name-requires
+hashed-name-requires c κs = omega arith
 
 returns-3 : tie.Need-returns-3
 unfolding idIn
 returns-3 c =
-    let named = c .marked-name .ensures in
+    let named = c .hashed-name .ensures in
     (named .0 ∙ id-last _ _ _ (omega arith) (omega arith), named .1)
 
-pub marked-id-spec : {M : Type 1} → statement M
-marked-id-spec =
+pub hashed-id-spec : {M : Type 1} → statement M
+hashed-id-spec =
     tie.close
     (tie.spec
     mul-d
@@ -75,6 +75,6 @@ marked-id-spec =
     add-n
     mul-n
     shared-slice-read-n
-    add-marked-name
-    marked-name-requires
+    add-hashed-name
+    hashed-name-requires
     returns-3)
