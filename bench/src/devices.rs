@@ -20,13 +20,14 @@ const fn devices(count: u64, name_bytes: usize) -> Devices {
 
 impl Devices {
     pub const NONE: Devices = devices(0, 8);
+    pub const FULL: Devices = devices(32, 256);
     pub const ALL: [Devices; 6] = [
         devices(0, 256),
         devices(0, 8),
         devices(4, 8),
         devices(4, 256),
         devices(32, 8),
-        devices(32, 256),
+        Devices::FULL,
     ];
 
     fn name(&self) -> Vec<u8> {

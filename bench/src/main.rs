@@ -4,6 +4,7 @@
 //! copied back outside the time taken; the two agents take turns, and the
 //! fastest round of each counts.
 
+mod burst;
 mod devices;
 mod independent_agent;
 mod orders;
@@ -211,6 +212,12 @@ impl<A: Agent> Host<A> {
         self.drain(128);
     }
 
+    /// Drains all entries of a copy of the state.
+    fn drain_copy(&mut self, copy: &mut A::State) {
+        let drained = A::drain(copy, &self.journal, &mut self.run);
+        black_box(drained).expect("the drain is accepted");
+    }
+
     /// What the two agents must agree on after a batch.
     fn seen(&self) -> (Vec<u64>, Vec<u8>, Vec<u64>) {
         (self.journal.to_vec(), self.out.to_vec(), self.run.to_vec())
@@ -274,8 +281,7 @@ impl Case {
     /// entries has a state of its own each time, one of the copies.
     fn batch<A: Agent>(&self, host: &mut Host<A>, messages: &[Vec<u8>], copies: &mut [A::State]) {
         for copy in copies {
-            let drained = A::drain(copy, &host.journal, &mut host.run);
-            black_box(drained).expect("the drain is accepted");
+            host.drain_copy(copy);
         }
         for (number, message) in messages.iter().enumerate() {
             match self.calls {
@@ -472,4 +478,5 @@ fn main() {
     print_head("ns a call");
     cases().iter().for_each(Case::run);
     pieces::run();
+    burst::run();
 }

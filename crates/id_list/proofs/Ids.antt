@@ -1,16 +1,18 @@
 -- The rules of ids: the bytes of an id are held in words, as a name is.
 -- Assumes nothing.
-use mathlib.Core.Path.{_≡_, refl, _∙_}
+use mathlib.Core.Path.{_≡_, refl, sym, _∙_}
 use mathlib.Core.Bool.{true}
 use mathlib.Core.List.{List}
 use Prim.Native.Nat.{ℕ, _+_, _*_, _/_, _%_, _<_, _≤_}
+use native.Mathlib.Omega.{arith}
 use lib.ListN.{length}
 use borrow.Author.Tests.{eq-eqb, eqb-true, le-leb, leb-true}
 use Rattle.model.specs.Choice.{_and_, every}
 use Rattle.model.specs.Layout.{highestMinor, idByteIn, idBytesIn, idIn, idPlace, idWords, mostIdBytes, mostIds}
 use Rattle.model.specs.Devices.{sameName}
 use Rattle.model.specs.Peers.{acceptedIds, idApart, idBytesKeep, idKeeps, idsKeep}
-use Rattle.model.proofs.Choice.{both, every-at, join}
+use Rattle.model.proofs.Choice.{both, every-at}
+use Rattle.model.proofs.Loops.{every-none}
 use Rattle.names.specs.NameWords.{heldByte, heldBytes, padded, holdsName}
 use Rattle.names.proofs.Bytes.{and-next}
 use Rattle.names.proofs.Names.{NameRules, name-rules}
@@ -76,9 +78,13 @@ module _ (l : List ℕ) (at n : ℕ) where
       let b = both _ _ (m .1) in
       record { few = leb-true _ _ (m .0); each = b .0; apart = b .1 }
 
-  pub ids-made : IdsRules → idsKeep l at n ≡ true
+  -- past the rules of each, they must be apart
+  pub ids-last : n ≤ mostIds → every n (idKeeps l at) ≡ true → every n (idApart l at) ≡ idsKeep l at n
   unfolding idsKeep
-  ids-made r = join _ _ (le-leb _ _ (r .few)) (join _ _ (r .each) (r .apart))
+  ids-last few each = sym (and-next _ _ (le-leb _ _ few) ∙ and-next _ _ each)
+
+  pub ids-none : n ≡ 0 → idsKeep l at n ≡ true
+  ids-none e = sym (ids-last (omega arith) (rw e (every-none (idKeeps l at)))) ∙ rw e (every-none (idApart l at))
 
 module _ (l : List ℕ) where
   pub accepted-rules : acceptedIds l ≡ true → (length l % idWords ≡ 0) × (length l / idWords ≤ mostIds)

@@ -1,3 +1,4 @@
 -- Laws that several proofs cite.
 -- Assumes nothing.
 pub mod Ids
+pub mod Hashes

@@ -1,3 +1,4 @@
 -- The definitions of this crate's contracts; those of the paper are model's.
 -- Assumes nothing.
 pub mod NameWords
+pub mod Hashes

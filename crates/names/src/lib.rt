@@ -11,6 +11,7 @@ ghost use Rattle.model.specs.Choice.{every};
 ghost use Rattle.model.specs.Layout.{wordBytes};
 ghost use Rattle.model.specs.Devices.{sameName, wordsHolding};
 ghost use Rattle.names.specs.NameWords.{wholeWord, lastWord, sameBytes, heldBytes, padded, holdsName};
+ghost use Rattle.names.specs.Hashes.{hashOf, mixed, mixedWords};
 
 // The low seven bits of each byte, and its top bit.
 const LOW_BITS: u64 = 0x7f7f7f7f7f7f7f7f;
@@ -69,6 +70,74 @@ pub fn holds_name(words: &[u64], from: usize, n: usize, most: usize) -> bool
         return false;
     }
     last_word_keeps(words[from + last], (n - 1) % WORD_BYTES)
+}
+
+// One word more in a hash, turned first, so that words in another order give another one.
+fn mixed(hash: u64, word: u64) -> u64
+    ensures { λ r. ⌜ r ≡ mixed hash word ⌝ }
+{
+    ((hash << 25) | (hash >> 39)) ^ word
+}
+
+// The top bits of the bytes that are 0, of all words passed, and the words mixed.
+struct Passed {
+    zeros: u64,
+    hash: u64,
+}
+
+// `n` words from `from` on are tested, and mixed in a hash, in one pass.
+fn pass_words(words: &[u64], from: usize, n: usize, first: u64) -> Passed
+    requires { ⌜ from + n ≤ length (now words) ⌝ }
+    ensures { λ r. ⌜ (eqb (r .zeros) 0 ≡ every n (λ q. wholeWord (getD (now (words .entry)) (from + q) 0))) × (r .hash ≡ mixedWords (now (words .entry)) from first n) ⌝ }
+{
+    let mut zeros: u64 = 0;
+    let mut hash = first;
+    let mut q: usize = 0;
+    while q < n {
+        let word = words[from + q];
+        zeros = zeros | zero_bytes(word);
+        hash = mixed(hash, word);
+        q += 1;
+    }
+    Passed { zeros, hash }
+}
+
+// Whether words hold a name, and the hash of it; of what is no name the hash says nothing.
+pub struct Hashed {
+    pub keeps: bool,
+    pub hash: u64,
+}
+
+// The same as `holds_name`, with the name's hash.
+pub fn hashed_name(words: &[u64], from: usize, n: usize, most: usize) -> Hashed
+    requires { ⌜ from + wordsHolding most ≤ length (now words) ⌝ }
+    ensures { λ r. ⌜ (r .keeps ≡ holdsName (now (words .entry)) from n most) × (r .keeps ≡ true → r .hash ≡ hashOf (now (words .entry)) from n) ⌝ }
+{
+    if n == 0 {
+        return Hashed {
+            keeps: false,
+            hash: 0,
+        };
+    }
+    if n > most {
+        return Hashed {
+            keeps: false,
+            hash: 0,
+        };
+    }
+    let last = (n - 1) / WORD_BYTES;
+    let passed = pass_words(words, from, last, n as u64);
+    if passed.zeros != 0 {
+        return Hashed {
+            keeps: false,
+            hash: 0,
+        };
+    }
+    let word = words[from + last];
+    let end = (n - 1) % WORD_BYTES;
+    let keeps = last_word_keeps(word, end);
+    let hash = mixed(passed.hash, word);
+    Hashed { keeps, hash }
 }
 
 // The `n` words from `a` on are those from `b` on.

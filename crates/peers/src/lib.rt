@@ -1,4 +1,5 @@
 // A channel's peer registrations: the services that the other end has registered with us, by the place of each one's id.
+use model::CHANNEL_COUNT;
 use model::FIRST_ID_WORD;
 use model::FIRST_PEER_WORD;
 use model::Found;
@@ -170,15 +171,15 @@ fn each_sound(state: &State, channel: usize) -> bool
     true
 }
 
-// Id q is not registered, or not under the handle.
+// Id q is not registered, or not under the handle, which is looked at first, since few are the same.
 fn differs(state: &State, channel: usize, q: usize, handle: u64) -> bool
     requires { ⌜ (channel < channelCount) × (q < mostIds) ⌝ }
     ensures { λ r. ⌜ r ≡ (eqb (peeredAt (now (state .entry)) channel q) 0 or not (eqb (peerHandleAt (now (state .entry)) channel q) handle)) ⌝ }
 {
-    if mark_of(state, channel, q) == 0 {
+    if handle_of(state, channel, q) != handle {
         return true;
     }
-    handle_of(state, channel, q) != handle
+    mark_of(state, channel, q) == 0
 }
 
 // "and differ there": id p's handle from those registered before it.
@@ -200,7 +201,7 @@ fn peer_apart(state: &State, channel: usize, p: usize) -> bool
     true
 }
 
-fn handles_apart(state: &State, channel: usize) -> bool
+fn registered_apart(state: &State, channel: usize) -> bool
     requires { ⌜ channel < channelCount ⌝ }
     ensures { λ r. ⌜ r ≡ every mostIds (peerApart (now (state .entry)) channel) ⌝ }
 {
@@ -212,6 +213,49 @@ fn handles_apart(state: &State, channel: usize) -> bool
         p += 1;
     }
     true
+}
+
+// A quick test: id p is not registered, or no id before it has its handle, registered or not.
+fn handle_alone(state: &State, channel: usize, p: usize) -> bool
+    requires { ⌜ (channel < channelCount) × (p < mostIds) ⌝ }
+    ensures { λ r. ⌜ (r ≡ true → peerApart (now (state .entry)) channel p ≡ true) ⌝ }
+{
+    if mark_of(state, channel, p) == 0 {
+        return true;
+    }
+    let handle = handle_of(state, channel, p);
+    let mut j: usize = 0;
+    while j < p {
+        if handle_of(state, channel, j) == handle {
+            return false;
+        }
+        j += 1;
+    }
+    true
+}
+
+fn handles_alone(state: &State, channel: usize) -> bool
+    requires { ⌜ channel < channelCount ⌝ }
+    ensures { λ r. ⌜ (r ≡ true → every mostIds (peerApart (now (state .entry)) channel) ≡ true) ⌝ }
+{
+    let mut p: usize = 0;
+    while p < MOST_IDS {
+        if !handle_alone(state, channel, p) {
+            return false;
+        }
+        p += 1;
+    }
+    true
+}
+
+fn handles_apart(state: &State, channel: usize) -> bool
+    requires { ⌜ channel < channelCount ⌝ }
+    ensures { λ r. ⌜ r ≡ every mostIds (peerApart (now (state .entry)) channel) ⌝ }
+{
+    if handles_alone(state, channel) {
+        return true;
+    }
+    registered_apart(state, channel)
 }
 
 // The channel has no mark: one look at each word, which is all that a channel without registrations costs. All of them are read: a loop without another way out
@@ -227,6 +271,19 @@ fn none_marked(state: &State, channel: usize) -> bool
         p += 1;
     }
     marks == 0
+}
+
+// No channel has a mark. All words are read here too, so that a state without registrations costs no more.
+pub fn none_registered(state: &State) -> bool
+    ensures { λ r. ⌜ r ≡ every channelCount (λ c. every mostIds (λ p. eqb (peeredAt (now (state .entry)) c p) 0)) ⌝ }
+{
+    let mut none = true;
+    let mut c: usize = 0;
+    while c < CHANNEL_COUNT {
+        none = none & none_marked(state, c);
+        c += 1;
+    }
+    none
 }
 
 // "a closed channel has no peer registrations, a ready one at most eight, whose handles lack that bit and differ there, as do their ids, each listed, with

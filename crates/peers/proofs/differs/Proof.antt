@@ -1,24 +1,24 @@
 -- `peers::differs` meets its contract: the cases of the definition.
 -- Assumes nothing.
+use mathlib.Core.Path.{sym}
 use borrow.Author.Tests.{ne-eqb, eq-eqb}
-use Rattle.model.specs.Choice.{_or_}
+use Rattle.model.proofs.Choice.{or-none, or-true}
 use borrow.Author.Needs.{needs}
 use Rattle.peers.proofs.differs.Statement.{statement}
 use Rattle.peers.proofs.differs.Tie as tie
 
-mark-of-requires : tie.Need-mark-of-requires
-mark-of-requires c κs = search needs
-
-returns : tie.Need-returns
-unfolding _or_
-returns c = rw (← c .before .mark-of .ensures, eq-eqb _ _ (c .if1 .taken))
-
 handle-of-requires : tie.Need-handle-of-requires
 handle-of-requires c κs = search needs
 
+returns : tie.Need-returns
+returns c = rw (← c .before .handle-of .ensures, ne-eqb _ _ (c .if1 .taken)) (sym (or-true _))
+
+mark-of-requires : tie.Need-mark-of-requires
+mark-of-requires c κs = search needs
+
 returns-2 : tie.Need-returns-2
-unfolding _or_
-returns-2 c = rw (← c .before .before .mark-of .ensures, ← c .handle-of .ensures, ne-eqb _ _ (c .before .if1 .left))
+returns-2 c =
+    rw (← c .before .before .handle-of .ensures, ← c .mark-of .ensures, eq-eqb _ _ (c .before .if1 .left)) (sym (or-none _))
 
 pub differs-spec : {M : Type 1} → statement M
-differs-spec = tie.close (tie.spec mark-of-requires returns handle-of-requires returns-2)
+differs-spec = tie.close (tie.spec handle-of-requires returns mark-of-requires returns-2)

@@ -1,53 +1,21 @@
--- `peers::handles_apart` meets its contract: each id passed is apart.
+-- `peers::handles_apart` meets its contract: by the quick test or by the exact one.
 -- Assumes nothing.
-use native.Mathlib.Omega.{arith}
-use mathlib.Core.Bool.{true}
-use mathlib.Core.Path.{_≡_}
-use Prim.Native.Nat.{_≤_, _-_}
-use Rattle.model.specs.Choice.{every}
-use Rattle.model.specs.Layout.{mostIds}
-use Rattle.model.specs.Peers.{peerApart}
-use Rattle.model.proofs.Loops.{no, yes, every-none, every-more, every-fails, every-all}
+use mathlib.Core.Path.{sym}
+use borrow.Author.Needs.{needs}
 use Rattle.peers.proofs.handles_apart.Statement.{statement}
 use Rattle.peers.proofs.handles_apart.Tie as tie
 
-abbrev Inv-loop : tie.InvT-loop
-Inv-loop state channel p₀ p = (p ≤ mostIds) × (every p (peerApart state channel) ≡ true)
+handles-alone-requires : tie.Need-handles-alone-requires
+handles-alone-requires c κs = search needs
 
-abbrev μ-loop : tie.MeasureT-loop
-μ-loop state channel p₀ p = mostIds - p
+returns : tie.Need-returns
+returns c = sym (c .before .handles-alone .ensures (c .if1 .taken))
 
-loop-holds : tie.Need-loop-holds Inv-loop μ-loop
-loop-holds c = (omega arith, every-none _)
+registered-apart-requires : tie.Need-registered-apart-requires
+registered-apart-requires c κs = search needs
 
-peer-apart-requires : tie.Need-peer-apart-requires Inv-loop μ-loop
-peer-apart-requires c κs = (omega arith, omega arith)
-
-returns : tie.Need-returns Inv-loop μ-loop
-returns c = every-fails _ _ _ (c .before .before .loop-test .taken) (no _ (c .before .peer-apart .ensures) (c .if1 .taken))
-
-add-p : tie.Need-add-p Inv-loop μ-loop
-add-p c = omega arith
-
-loop-less : tie.Need-loop-less Inv-loop μ-loop
-loop-less c = omega arith
-
-loop-again : tie.Need-loop-again Inv-loop μ-loop
-loop-again c = (omega arith, every-more _ _ (c .before .before .before .loop .inv .1) (yes _ (c .before .peer-apart .ensures) (c .if1 .left)))
-
-returns-2 : tie.Need-returns-2 Inv-loop μ-loop
-returns-2 c = every-all _ _ _ (c .before .loop .inv .0) (c .loop-test .left) (c .before .loop .inv .1)
+returns-2 : tie.Need-returns-2
+returns-2 c = c .registered-apart .ensures
 
 pub handles-apart-spec : {M : Type 1} → statement M
-handles-apart-spec =
-    tie.close
-    (tie.spec
-    Inv-loop
-    μ-loop
-    loop-holds
-    peer-apart-requires
-    returns
-    add-p
-    loop-less
-    loop-again
-    returns-2)
+handles-apart-spec = tie.close (tie.spec handles-alone-requires returns registered-apart-requires returns-2)

@@ -1,12 +1,13 @@
--- `id_list::id_keeps` meets its contract: a version above 16 bits breaks the rules, and past them the bytes decide.
+-- `id_list::hashed_id` meets its contract: a version above 16 bits breaks the rules, and past them the bytes decide, whose hash is the id's.
 -- Assumes nothing.
-use mathlib.Core.Path.{_∙_}
+use mathlib.Core.Path.{refl, _∙_}
 use Rattle.model.specs.Layout.{idIn}
+use Rattle.model.proofs.Choice.{clash}
 use Rattle.model.proofs.Loops.{refute}
 use Rattle.id_list.proofs.Ids.{id-rules, id-last}
 use native.Mathlib.Omega.{arith}
-use Rattle.id_list.proofs.id_keeps.Statement.{statement}
-use Rattle.id_list.proofs.id_keeps.Tie as tie
+use Rattle.id_list.proofs.hashed_id.Statement.{statement}
+use Rattle.id_list.proofs.hashed_id.Tie as tie
 
 mul-d : tie.Need-mul-d
 mul-d c = omega arith
@@ -22,7 +23,7 @@ shared-slice-read-if1 c = omega arith
 
 returns : tie.Need-returns
 unfolding idIn
-returns c = refute _ (λ t. let r = id-rules _ _ _ t in omega arith)
+returns c = (refute _ (λ t. let r = id-rules _ _ _ t in omega arith), λ t. absurd (clash _ refl t))
 
 add-if2 : tie.Need-add-if2
 add-if2 c = omega arith
@@ -35,7 +36,7 @@ shared-slice-read-if2 c = omega arith
 
 returns-2 : tie.Need-returns-2
 unfolding idIn
-returns-2 c = refute _ (λ t. let r = id-rules _ _ _ t in omega arith)
+returns-2 c = (refute _ (λ t. let r = id-rules _ _ _ t in omega arith), λ t. absurd (clash _ refl t))
 
 add-n : tie.Need-add-n
 add-n c = omega arith
@@ -46,18 +47,20 @@ mul-n c = omega arith
 shared-slice-read-n : tie.Need-shared-slice-read-n
 shared-slice-read-n c = omega arith
 
-add-holds-name : tie.Need-add-holds-name
-add-holds-name c = omega arith
+add-hashed-name : tie.Need-add-hashed-name
+add-hashed-name c = omega arith
 
-holds-name-requires : tie.Need-holds-name-requires
-holds-name-requires c κs = omega arith
+hashed-name-requires : tie.Need-hashed-name-requires
+hashed-name-requires c κs = omega arith
 
 returns-3 : tie.Need-returns-3
 unfolding idIn
-returns-3 c = c .holds-name .ensures ∙ id-last _ _ _ (omega arith) (omega arith)
+returns-3 c =
+    let named = c .hashed-name .ensures in
+    (named .0 ∙ id-last _ _ _ (omega arith) (omega arith), named .1)
 
-pub id-keeps-spec : {M : Type 1} → statement M
-id-keeps-spec =
+pub hashed-id-spec : {M : Type 1} → statement M
+hashed-id-spec =
     tie.close
     (tie.spec
     mul-d
@@ -72,6 +75,6 @@ id-keeps-spec =
     add-n
     mul-n
     shared-slice-read-n
-    add-holds-name
-    holds-name-requires
+    add-hashed-name
+    hashed-name-requires
     returns-3)

@@ -1,0 +1,74 @@
+-- `id_list::apart_at` meets its contract: no hash passed is the one so many places on.
+-- Assumes nothing.
+use native.Mathlib.Omega.{arith}
+use mathlib.Core.Bool.{not}
+use mathlib.Core.Path.{_≡_, refl, _∙_}
+use Prim.Native.Nat.{_+_, _≤_, _-_}
+use native.Mathlib.Numerals.{add-one}
+use lib.ListN.{getD}
+use lib.Dec.{eqb}
+use Rattle.model.specs.Choice.{every}
+use Rattle.model.specs.Layout.{mostIds}
+use Rattle.names.proofs.Bytes.{both-pass}
+use Rattle.id_list.specs.Hashes.{apartAt}
+use Rattle.id_list.proofs.apart_at.Statement.{statement}
+use Rattle.id_list.proofs.apart_at.Tie as tie
+
+abbrev Inv-loop : tie.InvT-loop
+Inv-loop hashes distance apart₀ k₀ apart k = (k ≤ mostIds) × (apart ≡ every k (λ j. not (eqb (getD hashes j 0) (getD hashes (j + distance) 0))))
+
+abbrev μ-loop : tie.MeasureT-loop
+μ-loop hashes distance apart₀ k₀ apart k = mostIds - k
+
+loop-holds : tie.Need-loop-holds Inv-loop μ-loop
+unfolding every
+loop-holds c = (omega arith, refl)
+
+mul-apart : tie.Need-mul-apart Inv-loop μ-loop
+mul-apart c = omega arith
+
+element-copy-out-apart : tie.Need-element-copy-out-apart Inv-loop μ-loop
+element-copy-out-apart c = omega arith
+
+add-apart : tie.Need-add-apart Inv-loop μ-loop
+add-apart c = omega arith
+
+mul-apart-2 : tie.Need-mul-apart-2 Inv-loop μ-loop
+mul-apart-2 c = omega arith
+
+element-copy-out-apart-2 : tie.Need-element-copy-out-apart-2 Inv-loop μ-loop
+element-copy-out-apart-2 c = omega arith
+
+add-k : tie.Need-add-k Inv-loop μ-loop
+add-k c = omega arith
+
+loop-less : tie.Need-loop-less Inv-loop μ-loop
+loop-less c = omega arith
+
+loop-again : tie.Need-loop-again Inv-loop μ-loop
+unfolding every
+loop-again c = let l = c .before .before .before .loop in
+    let a = c .before .before .before .before .args in
+    (omega arith, both-pass (l .apart) (not (eqb (getD (a .hashes .now) (l .k) 0) (getD (a .hashes .now) (l .k + a .distance) 0))) ∙ rw (l .inv .1, add-one))
+
+returns : tie.Need-returns Inv-loop μ-loop
+unfolding apartAt
+returns c = let past : c .before .loop .k ≡ mostIds = omega (arith, c .before .loop .inv .0, c .loop-test .left) in
+    c .before .loop .inv .1 ∙ rw past
+
+pub apart-at-spec : {M : Type 1} → statement M
+apart-at-spec =
+    tie.close
+    (tie.spec
+    Inv-loop
+    μ-loop
+    loop-holds
+    mul-apart
+    element-copy-out-apart
+    add-apart
+    mul-apart-2
+    element-copy-out-apart-2
+    add-k
+    loop-less
+    loop-again
+    returns)

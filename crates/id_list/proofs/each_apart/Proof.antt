@@ -1,0 +1,60 @@
+-- `id_list::each_apart` meets its contract: every id passed is apart from those before it.
+-- Assumes nothing.
+use mathlib.Core.Bool.{true}
+use mathlib.Core.Path.{_≡_}
+use Prim.Native.Nat.{_≤_, _-_}
+use native.Mathlib.Omega.{arith}
+use Rattle.model.specs.Choice.{every}
+use Rattle.model.specs.Peers.{idApart}
+use Rattle.model.proofs.Choice.{every-at, every-make}
+use Rattle.model.proofs.Loops.{no, yes, every-none, every-more, every-fails, every-all}
+use Rattle.id_list.proofs.each_apart.Statement.{statement}
+use Rattle.id_list.proofs.each_apart.Tie as tie
+
+abbrev Inv-loop : tie.InvT-loop
+Inv-loop words at n p₀ p = (p ≤ n) × (every p (idApart words at) ≡ true)
+
+abbrev μ-loop : tie.MeasureT-loop
+μ-loop words at n p₀ p = n - p
+
+loop-holds : tie.Need-loop-holds Inv-loop μ-loop
+loop-holds c = (omega arith, every-none _)
+
+id-apart-requires : tie.Need-id-apart-requires Inv-loop μ-loop
+id-apart-requires c κs =
+    let each = c .before .before .before .pre .1 in
+    let here = c .loop-test .taken in
+    (omega arith, every-make _ _ (λ k h. every-at _ _ k each (omega arith)), every-at _ _ _ each here)
+
+returns : tie.Need-returns Inv-loop μ-loop
+returns c =
+    let t = c .before in
+    every-fails _ _ _ (t .before .loop-test .taken) (no _ (t .id-apart .ensures) (c .if1 .taken))
+
+add-p : tie.Need-add-p Inv-loop μ-loop
+add-p c = omega arith
+
+loop-less : tie.Need-loop-less Inv-loop μ-loop
+loop-less c = omega arith
+
+loop-again : tie.Need-loop-again Inv-loop μ-loop
+loop-again c =
+    let t = c .before in
+    (omega arith, every-more _ _ (t .before .before .loop .inv .1) (yes _ (t .id-apart .ensures) (c .if1 .left)))
+
+returns-2 : tie.Need-returns-2 Inv-loop μ-loop
+returns-2 c = let l = c .before .loop in every-all _ _ _ (l .inv .0) (c .loop-test .left) (l .inv .1)
+
+pub each-apart-spec : {M : Type 1} → statement M
+each-apart-spec =
+    tie.close
+    (tie.spec
+    Inv-loop
+    μ-loop
+    loop-holds
+    id-apart-requires
+    returns
+    add-p
+    loop-less
+    loop-again
+    returns-2)

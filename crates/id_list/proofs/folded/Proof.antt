@@ -1,0 +1,17 @@
+-- `id_list::folded` meets its contract: it computes what the definition says.
+-- Assumes nothing.
+use mathlib.Core.Path.{refl}
+use borrow.Author.Needs.{needs}
+use Rattle.id_list.specs.Hashes.{folded}
+use Rattle.id_list.proofs.folded.Statement.{statement}
+use Rattle.id_list.proofs.folded.Tie as tie
+
+cast-result : tie.Need-cast-result
+cast-result c = search needs
+
+returns : tie.Need-returns
+unfolding folded
+returns c = refl
+
+pub folded-spec : {M : Type 1} → statement M
+folded-spec = tie.close (tie.spec cast-result returns)

@@ -1,0 +1,58 @@
+-- `id_list::hashes_apart` meets its contract: no hash is the one at a distance passed.
+-- Assumes nothing.
+use native.Mathlib.Omega.{arith}
+use mathlib.Core.Path.{_≡_, refl, _∙_}
+use Prim.Native.Nat.{_+_, _/_, _≤_, _-_}
+use native.Mathlib.Numerals.{add-one}
+use Rattle.model.specs.Choice.{every}
+use Rattle.model.specs.Layout.{mostIds}
+use Rattle.names.proofs.Bytes.{both-pass}
+use Rattle.id_list.specs.Hashes.{apartAt, hashesApart}
+use Rattle.id_list.proofs.hashes_apart.Statement.{statement}
+use Rattle.id_list.proofs.hashes_apart.Tie as tie
+
+abbrev Inv-loop : tie.InvT-loop
+Inv-loop hashes apart₀ d₀ apart d = (d ≤ mostIds / 2) × (apart ≡ every d (λ j. apartAt hashes (j + 1)))
+
+abbrev μ-loop : tie.MeasureT-loop
+μ-loop hashes apart₀ d₀ apart d = mostIds / 2 - d
+
+loop-holds : tie.Need-loop-holds Inv-loop μ-loop
+unfolding every
+loop-holds c = (omega arith, refl)
+
+add-apart-at : tie.Need-add-apart-at Inv-loop μ-loop
+add-apart-at c = omega arith
+
+apart-at-requires : tie.Need-apart-at-requires Inv-loop μ-loop
+apart-at-requires c κs = omega arith
+
+add-d : tie.Need-add-d Inv-loop μ-loop
+add-d c = omega arith
+
+loop-less : tie.Need-loop-less Inv-loop μ-loop
+loop-less c = omega arith
+
+loop-again : tie.Need-loop-again Inv-loop μ-loop
+unfolding every
+loop-again c = let l = c .before .before .loop in
+    (omega arith, both-pass (l .apart) (c .apart-at .result) ∙ rw (l .inv .1, add-one, c .apart-at .ensures))
+
+returns : tie.Need-returns Inv-loop μ-loop
+unfolding hashesApart
+returns c = let past : c .before .loop .d ≡ mostIds / 2 = omega (arith, c .before .loop .inv .0, c .loop-test .left) in
+    c .before .loop .inv .1 ∙ rw past
+
+pub hashes-apart-spec : {M : Type 1} → statement M
+hashes-apart-spec =
+    tie.close
+    (tie.spec
+    Inv-loop
+    μ-loop
+    loop-holds
+    add-apart-at
+    apart-at-requires
+    add-d
+    loop-less
+    loop-again
+    returns)

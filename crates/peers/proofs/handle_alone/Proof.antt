@@ -1,0 +1,73 @@
+-- `peers::handle_alone` meets its contract: no handle passed is the same, so that none of a registration is.
+-- Assumes nothing.
+use native.Mathlib.Omega.{arith}
+use mathlib.Core.Bool.{true, false, not}
+use mathlib.Core.Path.{_≡_, refl, sym, _∙_}
+use Prim.Native.Nat.{_≤_, _-_}
+use lib.Dec.{eqb}
+use borrow.Author.Tests.{ne-eqb}
+use Rattle.model.specs.Choice.{_or_, every}
+use Rattle.model.specs.Layout.{peeredAt, peerHandleAt}
+use Rattle.model.specs.Peers.{peerApart}
+use Rattle.model.proofs.Choice.{clash, or-true}
+use Rattle.model.proofs.Loops.{every-none, every-more, every-all}
+use Rattle.peers.proofs.Laws.{apart-unmarked, apart-marked}
+use Rattle.peers.proofs.handle_alone.Statement.{statement}
+use Rattle.peers.proofs.handle_alone.Tie as tie
+
+abbrev Inv-loop : tie.InvT-loop
+Inv-loop state channel p handle j₀ j = (j ≤ p) × (every j (λ k. eqb (peeredAt state channel k) 0 or not (eqb (peerHandleAt state channel k) handle)) ≡ true)
+
+abbrev μ-loop : tie.MeasureT-loop
+μ-loop state channel p handle j₀ j = p - j
+
+mark-of-requires : tie.Need-mark-of-requires Inv-loop μ-loop
+mark-of-requires c κs = (omega arith, omega arith)
+
+returns : tie.Need-returns Inv-loop μ-loop
+returns c e = apart-unmarked _ _ _ (sym (c .before .mark-of .ensures) ∙ c .if1 .taken)
+
+handle-of-requires : tie.Need-handle-of-requires Inv-loop μ-loop
+handle-of-requires c κs = (omega arith, omega arith)
+
+loop-holds : tie.Need-loop-holds Inv-loop μ-loop
+loop-holds c = (omega arith, every-none _)
+
+handle-of-requires-2 : tie.Need-handle-of-requires-2 Inv-loop μ-loop
+handle-of-requires-2 c κs = (omega arith, omega arith)
+
+returns-2 : tie.Need-returns-2 Inv-loop μ-loop
+returns-2 c e = absurd (clash false refl e)
+
+add-j : tie.Need-add-j Inv-loop μ-loop
+add-j c = omega arith
+
+loop-less : tie.Need-loop-less Inv-loop μ-loop
+loop-less c = omega arith
+
+loop-again : tie.Need-loop-again Inv-loop μ-loop
+loop-again c =
+    (omega arith, every-more _ _ (c .before .before .before .loop .inv .1) (rw (← c .before .handle-of2 .ensures, ne-eqb _ _ (c .if2 .left)) (or-true _)))
+
+returns-3 : tie.Need-returns-3 Inv-loop μ-loop
+returns-3 c e =
+    let h = c .before .before in
+    apart-marked _ _ _ _ (h .handle-of .ensures) (λ z. h .before .if1 .left (h .before .before .mark-of .ensures ∙ z))
+    ∙ sym (every-all _ _ _ (c .before .loop .inv .0) (c .loop-test .left) (c .before .loop .inv .1))
+
+pub handle-alone-spec : {M : Type 1} → statement M
+handle-alone-spec =
+    tie.close
+    (tie.spec
+    Inv-loop
+    μ-loop
+    mark-of-requires
+    returns
+    handle-of-requires
+    loop-holds
+    handle-of-requires-2
+    returns-2
+    add-j
+    loop-less
+    loop-again
+    returns-3)

@@ -1,0 +1,56 @@
+-- `peers::handles_alone` meets its contract: no handle passed stands before it.
+-- Assumes nothing.
+use native.Mathlib.Omega.{arith}
+use mathlib.Core.Bool.{true, false}
+use mathlib.Core.Path.{_≡_, refl, sym}
+use Prim.Native.Nat.{_≤_, _-_}
+use borrow.Author.Tests.{not-false}
+use Rattle.model.specs.Choice.{every}
+use Rattle.model.specs.Layout.{mostIds}
+use Rattle.model.specs.Peers.{peerApart}
+use Rattle.model.proofs.Choice.{clash}
+use Rattle.model.proofs.Loops.{every-none, every-more, every-all}
+use Rattle.peers.proofs.handles_alone.Statement.{statement}
+use Rattle.peers.proofs.handles_alone.Tie as tie
+
+abbrev Inv-loop : tie.InvT-loop
+Inv-loop state channel p₀ p = (p ≤ mostIds) × (every p (peerApart state channel) ≡ true)
+
+abbrev μ-loop : tie.MeasureT-loop
+μ-loop state channel p₀ p = mostIds - p
+
+loop-holds : tie.Need-loop-holds Inv-loop μ-loop
+loop-holds c = (omega arith, every-none _)
+
+handle-alone-requires : tie.Need-handle-alone-requires Inv-loop μ-loop
+handle-alone-requires c κs = (omega arith, omega arith)
+
+returns : tie.Need-returns Inv-loop μ-loop
+returns c e = absurd (clash false refl e)
+
+add-p : tie.Need-add-p Inv-loop μ-loop
+add-p c = omega arith
+
+loop-less : tie.Need-loop-less Inv-loop μ-loop
+loop-less c = omega arith
+
+loop-again : tie.Need-loop-again Inv-loop μ-loop
+loop-again c =
+    (omega arith, every-more _ _ (c .before .before .before .loop .inv .1) (c .before .handle-alone .ensures (not-false _ (c .if1 .left))))
+
+returns-2 : tie.Need-returns-2 Inv-loop μ-loop
+returns-2 c e = sym (every-all _ _ _ (c .before .loop .inv .0) (c .loop-test .left) (c .before .loop .inv .1))
+
+pub handles-alone-spec : {M : Type 1} → statement M
+handles-alone-spec =
+    tie.close
+    (tie.spec
+    Inv-loop
+    μ-loop
+    loop-holds
+    handle-alone-requires
+    returns
+    add-p
+    loop-less
+    loop-again
+    returns-2)

@@ -1,0 +1,53 @@
+-- `peers::registered_apart` meets its contract: each id passed is apart.
+-- Assumes nothing.
+use native.Mathlib.Omega.{arith}
+use mathlib.Core.Bool.{true}
+use mathlib.Core.Path.{_≡_}
+use Prim.Native.Nat.{_≤_, _-_}
+use Rattle.model.specs.Choice.{every}
+use Rattle.model.specs.Layout.{mostIds}
+use Rattle.model.specs.Peers.{peerApart}
+use Rattle.model.proofs.Loops.{no, yes, every-none, every-more, every-fails, every-all}
+use Rattle.peers.proofs.registered_apart.Statement.{statement}
+use Rattle.peers.proofs.registered_apart.Tie as tie
+
+abbrev Inv-loop : tie.InvT-loop
+Inv-loop state channel p₀ p = (p ≤ mostIds) × (every p (peerApart state channel) ≡ true)
+
+abbrev μ-loop : tie.MeasureT-loop
+μ-loop state channel p₀ p = mostIds - p
+
+loop-holds : tie.Need-loop-holds Inv-loop μ-loop
+loop-holds c = (omega arith, every-none _)
+
+peer-apart-requires : tie.Need-peer-apart-requires Inv-loop μ-loop
+peer-apart-requires c κs = (omega arith, omega arith)
+
+returns : tie.Need-returns Inv-loop μ-loop
+returns c = every-fails _ _ _ (c .before .before .loop-test .taken) (no _ (c .before .peer-apart .ensures) (c .if1 .taken))
+
+add-p : tie.Need-add-p Inv-loop μ-loop
+add-p c = omega arith
+
+loop-less : tie.Need-loop-less Inv-loop μ-loop
+loop-less c = omega arith
+
+loop-again : tie.Need-loop-again Inv-loop μ-loop
+loop-again c = (omega arith, every-more _ _ (c .before .before .before .loop .inv .1) (yes _ (c .before .peer-apart .ensures) (c .if1 .left)))
+
+returns-2 : tie.Need-returns-2 Inv-loop μ-loop
+returns-2 c = every-all _ _ _ (c .before .loop .inv .0) (c .loop-test .left) (c .before .loop .inv .1)
+
+pub registered-apart-spec : {M : Type 1} → statement M
+registered-apart-spec =
+    tie.close
+    (tie.spec
+    Inv-loop
+    μ-loop
+    loop-holds
+    peer-apart-requires
+    returns
+    add-p
+    loop-less
+    loop-again
+    returns-2)
