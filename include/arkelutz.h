@@ -16,8 +16,8 @@
  *   made at the same time, since there is no data but what is lent.
  *
  * Nothing is allocated, nothing is kept between calls but in what the caller lends, no call waits, and each ends. Undefined in the library are
- * memcpy and memset alone. Stack on x86-64: arkelutz_setup a state (16,360 bytes) and 144 bytes, arkelutz_piece 728, arkelutz_receive 616, the
- * others less (tools/stack counts it); on SPARC V9 sparc/kernel counts it.
+ * memcpy and memset alone. Stack on x86-64: arkelutz_setup a state (16,360 bytes) and less than 1 KB, every other call less than 1 KB; tools/stack
+ * counts it. On SPARC V9, where a frame has 176 bytes more for its register window, sparc/kernel counts it.
  *
  * refusal is 0 where the call was accepted, else a number of document 01 (below); then nothing was written anywhere, but by arkelutz_setup
  * the state of empty lists, by arkelutz_work 0 to pages, by arkelutz_take 0 to delay and by arkelutz_piece 0 to given and to length.
@@ -160,7 +160,10 @@ struct arkelutz_answer arkelutz_permit(uint64_t *state, size_t service, uint64_t
 struct arkelutz_order arkelutz_take(uint64_t *state, uint64_t *journal, size_t journal_words, uint8_t *out,
                                     size_t out_bytes, uint64_t *delay);
 
-/* Copies the oldest entries to the start of a run, as many whole ones as are held and fit, and forgets them. */
+/*
+ * Copies the oldest entries to the start of a run, as many whole ones as are held and fit, and forgets them. The journal is not written, so that a host which must lose none
+ * where a write fails can drain a copy of the state, save the entries, and only then put the copy in the state's place: examples/save.c.
+ */
 struct arkelutz_drained arkelutz_drain(uint64_t *state, const uint64_t *journal, size_t journal_words, uint64_t *run,
                                        size_t run_words);
 
