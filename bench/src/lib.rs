@@ -1,5 +1,6 @@
 //! The proved agent's static library, and random states and calls on which it
 //! is compared with the independent agent.
 
-pub mod proved;
+pub use arkelutz::raw as proved;
+
 pub mod states;

@@ -1,7 +1,15 @@
-//! The proved agent, by its static library. Nothing checks these declarations
-//! against crates/exports but the comparisons of results in this package.
+//! The calls as the static library has them, over words and bytes that the caller
+//! owns. They are safe on any of these: each call checks its state. Nothing checks
+//! the declarations against crates/exports but the comparisons of results in bench/.
+//!
+//! A refusal is a number, 0 where the call was accepted; [`crate::Refusal`] has their names.
 
+/// The words of a state.
 pub const STATE_WORDS: usize = 2_045;
+/// Every call but show and reopen asks for a journal of just this length.
+pub const JOURNAL_WORDS: usize = 128;
+/// Each of these but setup and drain asks for an output of this length or more.
+pub const OUTPUT_BYTES: usize = 2_592;
 /// Two words a channel: how many bytes are kept, and 1 where bytes are dropped.
 pub const FRONT_WORDS: usize = 8;
 /// Room for a whole message a channel.
@@ -10,43 +18,56 @@ pub const FRONT_BYTES: usize = 16_416;
 /// The agent's state.
 pub type Words = [u64; STATE_WORDS];
 
+/// The answer of a call that may have a reply.
 #[repr(C)]
 pub struct Answer {
+    /// 0 if the call was accepted.
     pub refusal: u64,
+    /// The reply's bytes, at the start of the output.
     pub length: usize,
 }
 
 /// Work's answer.
 pub struct Worked {
+    /// 0 if the call was accepted.
     pub refusal: u64,
+    /// The reply's bytes, at the start of the output.
     pub length: usize,
+    /// The pages that the step moved.
     pub pages: u64,
 }
 
+/// Drain's answer.
 #[repr(C)]
 pub struct Drained {
+    /// 0 if the call was accepted.
     pub refusal: u64,
+    /// Entries at the start of the run, two words each.
     pub entries: usize,
 }
 
-/// The number of the order: 1 shutdown, 2 panic, 0 on a refusal.
 #[repr(C)]
-pub struct Order {
-    pub refusal: u64,
-    pub order: u64,
+struct Order {
+    refusal: u64,
+    order: u64,
 }
 
 /// Take's answer.
 pub struct Taken {
+    /// 0 if the call was accepted.
     pub refusal: u64,
+    /// 1 shutdown, 2 panic, 0 on a refusal.
     pub order: u64,
+    /// A shutdown's, in milliseconds.
     pub delay: u64,
 }
 
-/// What the front is lent beside the state.
+/// What the front is lent beside the state; all 0 at first.
 #[derive(Clone, PartialEq)]
 pub struct Front {
+    /// Two words a channel.
     pub words: [u64; FRONT_WORDS],
+    /// A message's room a channel.
     pub bytes: [u8; FRONT_BYTES],
 }
 
@@ -65,11 +86,15 @@ struct Pieced {
     taken: usize,
 }
 
-/// A piece's answer; `given` is 1 if a message was given to the agent.
+/// A piece's answer.
 pub struct Piece {
+    /// 0 if the call was accepted.
     pub refusal: u64,
+    /// The bytes that were taken.
     pub taken: usize,
+    /// 1 if a message was given to the agent.
     pub given: u64,
+    /// The reply's bytes, at the start of the output.
     pub length: usize,
 }
 
@@ -206,6 +231,7 @@ pub fn setup(
     }
 }
 
+/// Receives a message on a channel.
 #[inline]
 pub fn receive(
     state: &mut Words,
@@ -228,6 +254,7 @@ pub fn receive(
     }
 }
 
+/// Offers a service to a channel's other end.
 #[inline]
 pub fn offer(
     state: &mut Words,
@@ -249,6 +276,7 @@ pub fn offer(
     }
 }
 
+/// Takes a service back.
 #[inline]
 pub fn withdraw(
     state: &mut Words,
@@ -270,6 +298,7 @@ pub fn withdraw(
     }
 }
 
+/// Closes a channel.
 #[inline]
 pub fn close(state: &mut Words, channel: u64, journal: &mut [u64], out: &mut [u8]) -> Answer {
     unsafe {
@@ -284,6 +313,7 @@ pub fn close(state: &mut Words, channel: u64, journal: &mut [u64], out: &mut [u8
     }
 }
 
+/// Does one step of the outstanding removal.
 #[inline]
 pub fn work(state: &mut Words, budget: u64, journal: &mut [u64], out: &mut [u8]) -> Worked {
     // a step writes it always; a value that no step moves would show one that does not
@@ -306,6 +336,7 @@ pub fn work(state: &mut Words, budget: u64, journal: &mut [u64], out: &mut [u8])
     }
 }
 
+/// Copies the oldest entries to the start of a run, and forgets them.
 #[inline]
 pub fn drain(state: &mut Words, journal: &[u64], run: &mut [u64]) -> Drained {
     unsafe {
@@ -319,7 +350,7 @@ pub fn drain(state: &mut Words, journal: &[u64], run: &mut [u64]) -> Drained {
     }
 }
 
-/// Any number but 0 permits.
+/// Sets whether requests to service 2 or 3 are permitted: any number but 0.
 #[inline]
 pub fn permit(
     state: &mut Words,
@@ -341,6 +372,7 @@ pub fn permit(
     }
 }
 
+/// Takes the order that a permitted request left.
 #[inline]
 pub fn take(state: &mut Words, journal: &mut [u64], out: &mut [u8]) -> Taken {
     // the call writes it always; no order has this delay
@@ -362,7 +394,7 @@ pub fn take(state: &mut Words, journal: &mut [u64], out: &mut [u8]) -> Taken {
     }
 }
 
-/// The length of the part.
+/// The length of the host's part of a data message, which begins at byte 16.
 #[inline]
 pub fn show(state: &Words, channel: u64, message: &[u8]) -> usize {
     unsafe { arkelutz_show(state, channel as usize, message.as_ptr(), message.len()) }
