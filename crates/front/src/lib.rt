@@ -22,7 +22,7 @@ ghost use mathlib.Core.Path.{_≡_};
 ghost use Prim.Native.Nat.{_*_, _+_, _<_, _≤_};
 ghost use mathlib.Core.Bool.{true};
 ghost use mathlib.Core.List.{_++_};
-ghost use lib.ListN.{drop, getD, length, take};
+ghost use lib.ListN.{drop, length, take};
 ghost use lib.Seq.{sets};
 ghost use Rattle.wire.specs.BigEndian.{byteAt};
 ghost use lib.Dec.{eqb};
@@ -30,18 +30,7 @@ ghost use Rattle.model.specs.Choice.{pick};
 ghost use Rattle.model.specs.Contracts.{ReceivePost};
 ghost use Rattle.model.specs.Messages.{payloadLength};
 ghost use Rattle.model.specs.Layout.{channelCount, dsHeaderBytes};
-ghost use Rattle.front_model.specs.Front.{
-  partWords,
-  droppingAt,
-  frontBytes,
-  frontSound,
-  frontSoundAt,
-  frontWords,
-  keptAt,
-  mostKept,
-  mostMessage,
-  unfinished,
-};
+ghost use Rattle.front_model.specs.Front.{droppingAt, frontBytes, frontSound, frontSoundAt, frontWords, keptAt, mostKept, mostMessage, unfinished};
 ghost use Rattle.front_model.specs.Contracts.{PiecePost, ReopenPost};
 ghost use Rattle.front.specs.Changes.{Fronts, withWords};
 ghost use Rattle.front.specs.Answers.{givenPiece, refusedPiece};

@@ -19,7 +19,7 @@ use Rattle.model.proofs.Choice.{tabulate-at, tabulate-length, both, every-at, o
 use Rattle.model.proofs.Lists.{meets-outcome}
 use Rattle.model.proofs.Ring.{entries-in}
 use Rattle.front_model.specs.Front.{Front, Part, dropping, keeps, bytesAt, droppingAt, partOf, partsOf, unfinished, frontSoundAt, frontSound}
-use Rattle.front_model.specs.Calls.{Taking, all, gives, taking, Pieced, pieceRefused, pieceKept, pieceGiven}
+use Rattle.front_model.specs.Calls.{all, gives, taking, Pieced, pieceRefused, pieceKept, pieceGiven}
 use Rattle.front_model.specs.Lists.{FrontDone, piecing, reopening, calling, Standing, stands, standsAfter, FrontKept, FrontMeets, AllFrontMeet}
 use Rattle.front_model.specs.Cutting.{isDrain, Cuts, repliesIn, drainedIn, heldIn, DrainAt, runRoom, drainsIn, messageIn, givenIn, CuttingHolds}
 use Rattle.front_model.proofs.Taking.{PartSound}

@@ -3,19 +3,16 @@
 use Prim.Native.Nat.{ℕ, zero, suc, _+_, _-_, _<_}
 use native.Mathlib.Omega.{arith}
 use mathlib.Core.Path.{_≡_, refl, sym, ap, _∙_}
-use mathlib.Core.Bool.{true}
-use mathlib.Core.List.{List, [], _∷_, _++_}
-use lib.ListN.{length, drop, replicate, length-append}
+use mathlib.Core.List.{List, [], _∷_}
+use lib.ListN.{length, drop, length-append}
 use lib.Seq.{drop-append-seam}
-use Rattle.model.specs.Choice.{pick, every, _and_, _or_}
-use Rattle.model.specs.Layout.{dsHeaderBytes}
+use Rattle.model.specs.Choice.{every, _and_, _or_}
 use Rattle.front_model.specs.Front.{Part, keeps, partOf, unfinished, frontSoundAt, frontSound, EmptySound}
-use Rattle.front_model.specs.Calls.{gives, taking}
-use Rattle.front_model.specs.Lists.{Standing, FrontDone, AllFrontMeet, standsAfter}
-use Rattle.front_model.specs.Cutting.{Cuts, Whole, AllWhole, joined, givenIn, MessagesGiven, LongGiven}
+use Rattle.front_model.specs.Calls.{taking}
+use Rattle.front_model.specs.Cutting.{AllWhole, joined, MessagesGiven, LongGiven}
 use Rattle.front_model.proofs.Taking.{PartSound, unfinished-short, whole-given, long-given}
-use Rattle.front_model.proofs.Streams.{Stream, before, ending, streamOf, stream-none, stream-given}
-use Rattle.front_model.proofs.Cutting.{turns, messagesIn, ofTurns, cut-stream, given-same}
+use Rattle.front_model.proofs.Streams.{Stream, before, streamOf, stream-none, stream-given}
+use Rattle.front_model.proofs.Cutting.{cut-stream, given-same}
 
 empty-part : PartSound (keeps [])
 unfolding PartSound

@@ -16,7 +16,6 @@ use Rattle.model.specs.Devices.{sameName}
 use Rattle.model.specs.Peers.{idApart, idKeeps}
 use Rattle.model.proofs.Choice.{clash, every-at, every-make}
 use Rattle.model.proofs.Loops.{refute}
-use Rattle.names.specs.NameWords.{heldBytes, sameBytes}
 use Rattle.names.proofs.Bytes.{words-differ}
 use Rattle.names.proofs.Names.{lengths-differ, pair-words}
 use Rattle.names.specs.Hashes.{hashOf, mixedWords}

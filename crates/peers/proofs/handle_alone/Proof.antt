@@ -8,7 +8,6 @@ use lib.Dec.{eqb}
 use borrow.Author.Tests.{ne-eqb}
 use Rattle.model.specs.Choice.{_or_, every}
 use Rattle.model.specs.Layout.{peeredAt, peerHandleAt}
-use Rattle.model.specs.Peers.{peerApart}
 use Rattle.model.proofs.Choice.{clash, or-true}
 use Rattle.model.proofs.Loops.{every-none, every-more, every-all}
 use Rattle.peers.proofs.Laws.{apart-unmarked, apart-marked}
