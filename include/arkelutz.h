@@ -16,8 +16,8 @@
  *   made at the same time, since there is no data but what is lent.
  *
  * Nothing is allocated, nothing is kept between calls but in what the caller lends, no call waits, and each ends. Undefined in the library are
- * memcpy and memset alone. Stack on x86-64: arkelutz_setup a state (16,360 bytes) and less than 1 KB, arkelutz_piece less than 1,152
- * bytes, every other call less than 1 KB; tools/stack counts it. On SPARC V9, where a frame has 176 bytes more for its register window, sparc/kernel counts it.
+ * memcpy and memset alone. Stack on x86-64: arkelutz_setup a state (15,880 bytes) and less than 1 KB, every other call
+ * less than 1 KB; tools/stack counts it. On SPARC V9, where a frame has 176 bytes more for its register window, sparc/kernel counts it.
  *
  * refusal is 0 where the call was accepted, else a number of document 01 (below); then nothing was written anywhere, but by arkelutz_setup
  * the state of empty lists, by arkelutz_work 0 to pages, by arkelutz_take 0 to delay and by arkelutz_piece 0 to given and to length.
@@ -32,7 +32,7 @@
 extern "C" {
 #endif
 
-#define ARKELUTZ_STATE_WORDS 2045
+#define ARKELUTZ_STATE_WORDS 1985
 #define ARKELUTZ_JOURNAL_WORDS 128 /* every call but show and reopen asks for a journal of just this length */
 #define ARKELUTZ_OUTPUT_BYTES 2592 /* and each of these but setup and drain for an output of this length or more */
 

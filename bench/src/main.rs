@@ -10,6 +10,7 @@ mod independent_agent;
 mod orders;
 mod peers;
 mod pieces;
+mod profile;
 mod proved_agent;
 
 use devices::Devices;
@@ -323,10 +324,14 @@ impl Case {
         }
     }
 
+    /// Those of a batch.
+    fn messages(&self) -> Vec<Vec<u8>> {
+        let numbers = 0..BATCH as u64;
+        numbers.map(|number| self.message(number)).collect()
+    }
+
     fn run(&self) {
-        let messages: Vec<_> = (0..BATCH as u64)
-            .map(|number| self.message(number))
-            .collect();
+        let messages = self.messages();
         let mut ours = self.host::<Proved>();
         let mut theirs = self.host::<Independent>();
         let (mut least, mut least_theirs) = (f64::MAX, f64::MAX);
@@ -474,9 +479,14 @@ fn peer_cases() -> Vec<Case> {
     .collect()
 }
 
-fn main() {
+fn main() -> Result<(), String> {
+    let words: Vec<String> = std::env::args().skip(1).collect();
+    if !words.is_empty() {
+        return profile::run(&words);
+    }
     print_head("ns a call");
     cases().iter().for_each(Case::run);
     pieces::run();
     burst::run();
+    Ok(())
 }

@@ -9,12 +9,11 @@ use independent::generate::random::Random;
 use independent::peer::{ID_WORDS, MAX_IDS};
 
 /// What is spoilt.
-pub const SPOILT: [&str; 6] = [
+pub const SPOILT: [&str; 5] = [
     "a device with a mark past 1",
     "a permission past 1",
     "an order past 2",
     "a version of an id past 16 bits",
-    "a registration's mark past 1",
     "a registration's minor past 16 bits",
 ];
 
@@ -44,15 +43,11 @@ pub fn spoil(random: &mut Random, words: &mut Words) -> Option<&'static str> {
         }
         6..=8 => {
             let channels = (0..4).map(|channel| PEER + channel * PEER_WORDS);
-            let marks = channels.flat_map(|start| start..start + MAX_IDS);
-            let marks: Vec<usize> = marks.filter(|mark| words[*mark] == 1).collect();
-            let mark = random.pick_any(&marks)?;
-            if random.once_in(2) {
-                words[mark] = value;
-                return Some(SPOILT[4]);
-            }
-            words[mark + MINOR] = past_16_bits(random);
-            Some(SPOILT[5])
+            let places = channels.flat_map(|marks| (0..MAX_IDS).map(move |at| (marks, at)));
+            let registered = places.filter(|(marks, at)| words[*marks] >> at & 1 == 1);
+            let minors: Vec<usize> = registered.map(|(marks, at)| marks + MINOR + at).collect();
+            words[random.pick_any(&minors)?] = past_16_bits(random);
+            Some(SPOILT[4])
         }
         _ => None,
     }

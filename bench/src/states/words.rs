@@ -38,11 +38,14 @@ pub const ID_COUNT: usize = DELAY + 1;
 pub const ID: usize = ID_COUNT + 1;
 const ID_BYTES: usize = 2;
 const ID_NAME: usize = 3;
-/// By channel a mark, a handle and a minor version for each place of an id.
+/// By channel a word with a mark for each place of an id, from its lowest bit on,
+/// then a handle and a minor version for each.
 pub const PEER: usize = ID + MAX_IDS * ID_WORDS;
-pub const PEER_WORDS: usize = 3 * MAX_IDS;
-const HANDLE: usize = MAX_IDS;
-pub const MINOR: usize = 2 * MAX_IDS;
+pub const PEER_WORDS: usize = 1 + 2 * MAX_IDS;
+const HANDLE: usize = 1;
+pub const MINOR: usize = HANDLE + MAX_IDS;
+/// The bits of that word past the last place.
+const PAST_PLACES: u64 = u64::MAX << MAX_IDS;
 const END: usize = PEER + CHANNELS * PEER_WORDS;
 
 fn service_words(service: &Service) -> [u64; SERVICE_WORDS] {
@@ -100,7 +103,7 @@ fn order_words(orders: &Orders) -> [u64; ID_COUNT - PERMISSION] {
 fn peer_words(peers: &Peers) -> [u64; PEER_WORDS] {
     let mut words = [0; PEER_WORDS];
     for place in 0..MAX_IDS {
-        words[place] = peers.has(place).into();
+        words[0] |= u64::from(peers.has(place)) << place;
         words[HANDLE + place] = peers.handles[place];
         words[MINOR + place] = peers.minors[place].into();
     }
@@ -240,9 +243,9 @@ fn free_of_id(words: &Words, id: usize) -> Range<usize> {
 
 /// Handle and minor version of a place on a channel where no id is registered.
 fn free_of_peer(words: &Words, channel: usize, place: usize) -> [Range<usize>; 2] {
-    let mark = PEER + channel * PEER_WORDS + place;
-    let free = usize::from(words[mark] == 0);
-    [mark + HANDLE, mark + MINOR].map(|word| word..word + free)
+    let marks = PEER + channel * PEER_WORDS;
+    let free = usize::from(words[marks] >> place & 1 == 0);
+    [marks + HANDLE + place, marks + MINOR + place].map(|word| word..word + free)
 }
 
 /// The words that 01 and 02 give no meaning in this state: those of services,
@@ -277,10 +280,14 @@ fn free(words: &Words) -> Vec<Range<usize>> {
     ranges
 }
 
-/// Gives each word without a meaning a value.
+/// Gives each word without a meaning a value, and the bits of marks past the last
+/// place.
 pub fn fill_free(words: &mut Words, mut value: impl FnMut() -> u64) {
     for range in free(words) {
         words[range].fill_with(&mut value);
+    }
+    for marks in words[PEER..].iter_mut().step_by(PEER_WORDS) {
+        *marks = *marks & !PAST_PLACES | value() & PAST_PLACES;
     }
 }
 

@@ -5,7 +5,7 @@
 //! A refusal is a number, 0 where the call was accepted; [`crate::Refusal`] has their names.
 
 /// The words of a state.
-pub const STATE_WORDS: usize = 2_045;
+pub const STATE_WORDS: usize = 1_985;
 /// Every call but show and reopen asks for a journal of just this length.
 pub const JOURNAL_WORDS: usize = 128;
 /// Each of these but setup and drain asks for an output of this length or more.

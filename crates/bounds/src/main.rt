@@ -45,6 +45,7 @@ use model::ID_PLACE;
 use model::ID_WORDS;
 use model::JOURNAL_WORDS;
 use model::LAST_WORD;
+use model::MARK_WORDS;
 use model::MOST_BLOCKS;
 use model::MOST_HELD;
 use model::MOST_IDS;
@@ -99,7 +100,7 @@ const SP_LOG: u64 = 0x73702d6c6f670000;
 
 const PEER: usize = FIRST_PEER_WORD + 2 * PEER_WORDS;
 
-const PEER_HANDLE: usize = PEER + MOST_IDS;
+const PEER_HANDLE: usize = PEER + MARK_WORDS;
 
 const PEER_MINOR: usize = PEER_HANDLE + MOST_IDS;
 
@@ -504,6 +505,14 @@ fn unread_peers(text: &mut Text, used: &mut usize) {
         text,
         used,
     );
+    let mut state = sound_state();
+    state[PEER] = state[PEER] | (1 << MOST_IDS);
+    sound(
+        b"# a mark past the last place of an id\n",
+        &state,
+        text,
+        used,
+    );
 }
 
 fn places_of_blocks(text: &mut Text, used: &mut usize) {
@@ -794,13 +803,6 @@ fn id_bytes(text: &mut Text, used: &mut usize) {
 
 fn peers(text: &mut Text, used: &mut usize) {
     changed(
-        b"# a peer registration neither made nor not\n",
-        PEER,
-        2,
-        text,
-        used,
-    );
-    changed(
         b"# a peer registration on a closed channel\n",
         PEER - PEER_WORDS,
         1,
@@ -809,8 +811,8 @@ fn peers(text: &mut Text, used: &mut usize) {
     );
     changed(
         b"# a peer registration of an id that is not listed\n",
-        PEER + 2,
-        1,
+        PEER,
+        0b101,
         text,
         used,
     );
@@ -833,8 +835,8 @@ fn peer_handles(text: &mut Text, used: &mut usize) {
     );
     changed_two(
         b"# two peer handles of a channel the same\n",
-        PEER + 1,
-        1,
+        PEER,
+        0b11,
         PEER_HANDLE + 1,
         5,
         text,
@@ -842,30 +844,26 @@ fn peer_handles(text: &mut Text, used: &mut usize) {
     );
 }
 
-// Id p, of one byte and its zero, with version 1.0; and its registration on channel 2 under the handle p, made (1) or not (0).
-fn put_id(state: &mut State, p: usize, mark: u64)
+// Id p, of one byte and its zero, with version 1.0; and the words of its registration on channel 2 under the handle p.
+fn put_id(state: &mut State, p: usize)
     requires { ⌜ p < mostIds ⌝ }
 {
     state[ID + p * ID_WORDS] = 1;
     state[ID + p * ID_WORDS + ID_MINOR_PLACE] = 0;
     state[ID + p * ID_WORDS + ID_BYTES_PLACE] = 2;
     state[ID + p * ID_WORDS + ID_PLACE] = (65 + p as u64) << 56;
-    state[PEER + p] = mark;
     state[PEER_HANDLE + p] = p as u64;
     state[PEER_MINOR + p] = 0;
 }
 
-// The sound state with sixteen ids, the first `count` of which the peer has registered on channel 2.
-fn registered(count: usize) -> State {
+// The sound state with sixteen ids, of which the peer has those marked registered on channel 2.
+fn registered(marks: u64) -> State {
     let mut state = sound_state();
     state[ID_COUNT_WORD] = MOST_IDS as u64;
+    state[PEER] = marks;
     let mut p: usize = 0;
     while p < MOST_IDS {
-        if p < count {
-            put_id(&mut state, p, 1);
-        } else {
-            put_id(&mut state, p, 0);
-        }
+        put_id(&mut state, p);
         p += 1;
     }
     state
@@ -873,7 +871,7 @@ fn registered(count: usize) -> State {
 
 // Eight peer registrations of a channel, and nine.
 fn most_peers(text: &mut Text, used: &mut usize) {
-    let state = registered(8);
+    let state = registered(0b11111111);
     sound(
         b"# eight peer registrations of a channel\n",
         &state,
@@ -881,7 +879,7 @@ fn most_peers(text: &mut Text, used: &mut usize) {
         used,
     );
     output::put(text, used, b"# nine peer registrations of a channel\n");
-    each_call(&registered(9), text, used);
+    each_call(&registered(0b111111111), text, used);
 }
 
 fn removals(text: &mut Text, used: &mut usize) {

@@ -9,7 +9,7 @@ use Rattle.model.specs.Choice.{pick, _and_, _or_, every, orElse, firstBe
 use Rattle.model.specs.Day.{Day, Ids, replies}
 use Rattle.model.specs.Demand3.{drainedBy, numberedBy, after, runs, start, history, entries, replyOf}
 use Rattle.model.specs.Journal.{fieldsOf, entryOf, stored, entryAt, entriesAt, wordsOf, entriesIn}
-use Rattle.model.specs.Layout.{blockIn, removalOf, withChannel, withService, withConfigured, withCounts, withRemoval, withoutRemoval, withNumber}
+use Rattle.model.specs.Layout.{bitOf, blockIn, removalOf, withChannel, withService, withConfigured, withCounts, withRemoval, withoutRemoval, withNumber}
 use Rattle.model.specs.Memory.{requestNumber, hasRecords, hasNothing, requestOf, memoryReply, statusAt, resultRecord, permanentBytes, permanentFirst, permanentRange, queryRecord, answering, answeringError, blocked, oneFailed, oneConfigured, oneUnchanged, configureAt, configureOne, configuredBy, configureReply, answeringConfigure, newRemoval, beginning, querying, statusRecord, reporting, marked, cancelling, requested, answeredMemory, rises}
 use Rattle.model.specs.Messages.{services, route, dsMessage, initAck, initNack, regReq, regNack, unreg, unregAck, unregNack, dsData, nack, wholeMessage, idFits, payloadFits, wellFormed, decodedByType, decoded, closing, noting, initiated, acknowledged, notAcknowledged, unregistered, offering, withdrawing, numbersAnew}
 use Rattle.model.specs.Refusals.{refusalIn, actionRefusal, drainRefusal}
@@ -20,7 +20,7 @@ use Rattle.entry.specs.Word.{packed}
 
 -- to unfold this is to unfold all that computes
 opened : Unit {0}
-unfolding blockKeeps endBefore blocksKeep acceptedBlocks acceptedLists devicesKeep acceptedDevices idsKeep acceptedIds peerSound peerApart peersBelow peersSound withList setupState names namedBlock refused accepted routed dataFor heard hears receiving inRange allowed effectOf pagesOf refusalOf drained outcome setupRefusal setUp pick _and_ _or_ every orElse firstBelow tabulate joined replies drainedBy numberedBy after runs start history entries replyOf fieldsOf entryOf stored entryAt entriesAt wordsOf entriesIn blockIn removalOf withChannel withService withConfigured withCounts withRemoval withoutRemoval requestNumber hasRecords hasNothing requestOf memoryReply statusAt resultRecord permanentBytes permanentFirst permanentRange queryRecord answering answeringError blocked oneFailed oneConfigured oneUnchanged configureAt configureOne configuredBy configureReply answeringConfigure newRemoval beginning querying statusRecord reporting marked cancelling requested answeredMemory rises numbersAnew withNumber services route dsMessage initAck initNack regReq regNack unreg unregAck unregNack dsData nack wholeMessage idFits payloadFits wellFormed decodedByType decoded closing noting initiated acknowledged notAcknowledged unregistered offering withdrawing refusalIn actionRefusal drainRefusal isOurs serviceSound handleApart roomAt removalRoom collectedSound resultSound resultsSound removalSound outstandingSound ordersSound sound failingCode endCode resultAt lateReply ending settled collecting pagesMoved collects worksOn worksAt stepOf byteAt numberAt bytesOf written packed
+unfolding blockKeeps endBefore blocksKeep acceptedBlocks acceptedLists devicesKeep acceptedDevices idsKeep acceptedIds bitOf peerSound peerApart peersBelow peersSound withList setupState names namedBlock refused accepted routed dataFor heard hears receiving inRange allowed effectOf pagesOf refusalOf drained outcome setupRefusal setUp pick _and_ _or_ every orElse firstBelow tabulate joined replies drainedBy numberedBy after runs start history entries replyOf fieldsOf entryOf stored entryAt entriesAt wordsOf entriesIn blockIn removalOf withChannel withService withConfigured withCounts withRemoval withoutRemoval requestNumber hasRecords hasNothing requestOf memoryReply statusAt resultRecord permanentBytes permanentFirst permanentRange queryRecord answering answeringError blocked oneFailed oneConfigured oneUnchanged configureAt configureOne configuredBy configureReply answeringConfigure newRemoval beginning querying statusRecord reporting marked cancelling requested answeredMemory rises numbersAnew withNumber services route dsMessage initAck initNack regReq regNack unreg unregAck unregNack dsData nack wholeMessage idFits payloadFits wellFormed decodedByType decoded closing noting initiated acknowledged notAcknowledged unregistered offering withdrawing refusalIn actionRefusal drainRefusal isOurs serviceSound handleApart roomAt removalRoom collectedSound resultSound resultsSound removalSound outstandingSound ordersSound sound failingCode endCode resultAt lateReply ending settled collecting pagesMoved collects worksOn worksAt stepOf byteAt numberAt bytesOf written packed
 opened = tt
 
 pub day : Day

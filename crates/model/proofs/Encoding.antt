@@ -3,28 +3,30 @@
 use mathlib.Core.Path.{_≡_, refl, ap, _∙_}
 use mathlib.Core.Bool.{Bool, true, false, not}
 use mathlib.Core.List.{List, [], _∷_}
-use Prim.Native.Nat.{ℕ, zero, suc, _+_, _*_, _/_, _%_, _<_, _≤_}
+use Prim.Native.Nat.{ℕ, zero, suc, _+_, _-_, _*_, _/_, _%_, _^_, _<_, _≤_}
+use native.Mathlib.Nat.{pow-suc}
 use native.Mathlib.Omega.{arith}
 use lib.ListN.{length, getD, getD-replicate}
 use lib.Seq.{sets, length-sets}
 use lib.Dec.{eqb, leb, ltb}
-use borrow.Author.Tests.{le-leb, lt-ltb, eq-eqb, ne-eqb, eqb-true, eqb-false}
+use borrow.Author.Tests.{le-leb, le-ltb, lt-ltb, eq-eqb, ne-eqb, eqb-true, eqb-false}
 use Rattle.model.specs.Choice.{pick, every, _and_, _or_, firstBelow, tabulate}
 use Rattle.model.specs.declared.Found.the-variants.{At}
 use Rattle.model.specs.declared.Removal.{Removal}
-use Rattle.model.specs.Layout.{blockAt, blockIn, blockWords, channelCount, placeCount, serviceCount, firstBlockWord, lastOf, outstandingOf, stageAt, handleAt, minorAt, readyAt, stageIdle, stageRegistered, wordOf, isSet, removalOf, heldOf, withRemoval, firstStageWord, serviceWords, stateWords, blockCountWord, lastWord, heldWord, outstandingWord, mostRecords, firstNumberedWord, deviceCountWord, firstDeviceWord, deviceConfiguredPlace, deviceWords, namePlace, nameBytesIn, deviceIn, devicesOf, firstPermissionWord, orderShutdown, orderPanic, highestDelay, mostIds, idWords, idPlace, idMinorPlace, idCountWord, firstIdWord, firstPeerWord, peerWords, idsOf, idIn, idBytesIn, peeredAt, peerHandleAt, peerMinorAt}
+use Rattle.model.specs.Layout.{blockAt, blockIn, blockWords, channelCount, placeCount, serviceCount, firstBlockWord, lastOf, outstandingOf, stageAt, handleAt, minorAt, readyAt, stageIdle, stageRegistered, wordOf, isSet, removalOf, heldOf, withRemoval, firstStageWord, serviceWords, stateWords, blockCountWord, lastWord, heldWord, outstandingWord, mostRecords, firstNumberedWord, deviceCountWord, firstDeviceWord, deviceConfiguredPlace, deviceWords, namePlace, nameBytesIn, deviceIn, devicesOf, firstPermissionWord, orderShutdown, orderPanic, highestDelay, mostIds, idWords, idPlace, idMinorPlace, idCountWord, firstIdWord, firstPeerWord, markWords, peerWords, bitOf, idsOf, idIn, idBytesIn, peeredAt, peerHandleAt, peerMinorAt}
 use Rattle.model.specs.Devices.{wordsHolding, deviceKeeps, devicesKeep}
 use Rattle.model.specs.Blocks.{setupState, endOf, endBefore, names, namedBlock}
 use Rattle.model.specs.Peers.{idsKeep, peersBelow, peersSound}
 use Rattle.model.specs.State.{serviceSound, roomAt, removalRoom, collectedSound, resultSound, resultsSound, ordersSound, sound}
 use Rattle.model.specs.Reading.{Stage, idle, offered, registered, Order, noOrder, shutdown, panic, Peer, noPeer, peer}
 use Rattle.model.proofs.OrderEffects.{order-test}
-use Rattle.model.specs.Encoding.{Told, LiveAs, isOffered, isRegistered, blockTold, CollectedTold, nothing, below, ResultTold, ok, nowork, RemovalTold, SoundTold, SaysService, SaysRemoval, Says, stageTold, handleTold, minorTold, servicesTold, removalTold, SaysOrder, orderTold, delayTold, ordersTold, markTold, peersCount, SaysPeer, peerWordTold, peersTold, lowTold, wordsTold, EncodingHolds}
+use Rattle.model.specs.Encoding.{Told, LiveAs, isOffered, isRegistered, blockTold, CollectedTold, nothing, below, ResultTold, ok, nowork, RemovalTold, SoundTold, SaysService, SaysRemoval, Says, stageTold, handleTold, minorTold, servicesTold, removalTold, SaysOrder, orderTold, delayTold, ordersTold, markTold, marksTold, peersCount, SaysPeer, peerHandleTold, peerMinorTold, peerWordTold, peersTold, lowTold, wordsTold, EncodingHolds}
 use Rattle.model.proofs.Choice.{clash, every-make, first-same, first-facts, pick-true, pick-false, tabulate-at, tabulate-length}
 use Rattle.model.proofs.Words.{Arrays, sets-below, sets-above, sets-at, service-frame, service-length, service-word, counts-frame, counts-length, last-counts, held-counts, removal-frame, removal-above, removal-length, removal-back, head-back}
 use Rattle.model.proofs.View.{block-same}
 use Rattle.model.proofs.Rules.{sound-test, service-idle, live-last, Live, Apart, Base, Outstanding, RemovalFacts, Removes}
 use Rattle.model.proofs.Devices.{devices-keep, device-facts, flag-few, name-few}
+use Rattle.model.proofs.Marks.{top-bit, low-bit}
 use Rattle.model.proofs.Peers.{id-facts, id-few, ids-keep}
 use Rattle.model.proofs.PeerTurns.{Registration, unpeered, peered, registrations-test}
 use Rattle.model.proofs.Setup.{WholeLists, whole-lists, setup-length, high as setup-high, count as setup-count, block as setup-block, device-count as setup-devices, device-given as setup-device, id-count as setup-ids, id-words as setup-id}
@@ -215,6 +217,33 @@ ids-said : (s : List ℕ) (t : Told) → Says s t → SoundTold t → idsKeep s 
 ids-said s t w f =
     let d = whole-lists (t .lists) (f .lists) .ids in
     rw (w .ids) (ids-keep (t .lists .ids) s 0 firstIdWord (length (t .lists .ids) / idWords) (λ p h j g. w .id p h j g) (d .keeps))
+
+-- the marks of a channel, in one word
+mark-few : (x : Peer) → markTold x < 2
+unfolding markTold
+mark-few noPeer = omega arith
+mark-few (peer handle minor) = omega arith
+
+marks-few : (ps : ℕ → Peer) (n : ℕ) → marksTold ps n < 2 ^ n
+unfolding marksTold
+marks-few ps zero = omega arith
+marks-few ps (suc n) = rw (pow-suc 2 n) (twice (markTold (ps n)) (2 ^ n) (marksTold ps n) (mark-few (ps n)) (marks-few ps n))
+  where
+    twice : (x m w : ℕ) → x < 2 → w < m → x * m + w < m * 2
+    twice zero m w h l = omega arith
+    twice (suc zero) m w h l = omega arith
+    twice (suc (suc x)) m w h l = absurd (omega arith)
+
+marks-bit : (ps : ℕ → Peer) (n p : ℕ) → p < n → bitOf (marksTold ps n) p ≡ markTold (ps p)
+unfolding marksTold
+marks-bit ps zero p h = absurd (omega arith)
+marks-bit ps (suc n) p h = go (λ l. marks-bit ps n p l) (eqb p n) refl
+  where
+    go : (p < n → bitOf (marksTold ps n) p ≡ markTold (ps p)) → (b : Bool) → eqb p n ≡ b → bitOf (markTold (ps n) * 2 ^ n + marksTold ps n) p ≡ markTold (ps p)
+    go so true e = rw (eqb-true p n e) (top-bit (markTold (ps n)) (marksTold ps n) n (mark-few (ps n)) (marks-few ps n))
+    go so false e =
+        let o = eqb-false p n e in
+        low-bit (markTold (ps n)) (marksTold ps n) n p (omega arith) ∙ so (omega arith)
 
 -- and sound peer registrations
 module _ (s : List ℕ) (t : Told) (w : Says s t) (f : SoundTold t) (c : ℕ) (h : c < channelCount) where
@@ -458,25 +487,43 @@ module _ (t : Told) (f : SoundTold t) where
       let few = whole .ids .few in
       words-ids (firstIdWord + p * idWords + j) (omega arith) (omega arith) ∙ setup-id (t .lists) whole p h j g
 
-  told-at : (c p part : ℕ) → c < channelCount → p < mostIds → part < 3 → getD (peersTold (t .peers)) (c * peerWords + part * mostIds + p) 0 ≡ peerWordTold (t .peers c p) part
+  told-at : (c j : ℕ) → c < channelCount → j < peerWords → getD (peersTold (t .peers)) (c * peerWords + j) 0 ≡ peerWordTold (t .peers c) j
   unfolding peersTold
-  told-at c p part h b l =
-      let x : (c * peerWords + part * mostIds + p) / peerWords ≡ c = omega arith in
-      let y : (c * peerWords + part * mostIds + p) % mostIds ≡ p = omega arith in
-      let z : (c * peerWords + part * mostIds + p) % peerWords / mostIds ≡ part = omega arith in
-      tabulate-at (λ j. peerWordTold (t .peers (j / peerWords) (j % mostIds)) (j % peerWords / mostIds)) (channelCount * peerWords) (c * peerWords + part * mostIds + p) 0 (omega arith)
-      ∙ rw (x, y, z)
+  told-at c j h b =
+      let x : (c * peerWords + j) / peerWords ≡ c = omega arith in
+      let y : (c * peerWords + j) % peerWords ≡ j = omega arith in
+      tabulate-at (λ j. peerWordTold (t .peers (j / peerWords)) (j % peerWords)) (channelCount * peerWords) (c * peerWords + j) 0 (omega arith)
+      ∙ rw (x, y)
 
-  words-peer : (c p part j : ℕ) → c < channelCount → p < mostIds → part < 3 → j ≡ firstPeerWord + (c * peerWords + part * mostIds + p) → getD (wordsTold t) j 0 ≡ peerWordTold (t .peers c p) part
-  words-peer c p part j h b l e =
+  words-peer : (c j k : ℕ) → c < channelCount → j < peerWords → k ≡ firstPeerWord + (c * peerWords + j) → getD (wordsTold t) k 0 ≡ peerWordTold (t .peers c) j
+  words-peer c j k h b e =
       rw e
-      (words-high (firstPeerWord + (c * peerWords + part * mostIds + p)) (omega arith)
-      ∙ low-frame (firstPeerWord + (c * peerWords + part * mostIds + p)) (λ p q. omega arith) (λ p q. omega arith)
-      ∙ opened-peers (c * peerWords + part * mostIds + p) (omega arith)
-      ∙ told-at c p part h b l)
+      (words-high (firstPeerWord + (c * peerWords + j)) (omega arith)
+      ∙ low-frame (firstPeerWord + (c * peerWords + j)) (λ p q. omega arith) (λ p q. omega arith)
+      ∙ opened-peers (c * peerWords + j) (omega arith)
+      ∙ told-at c j h b)
 
-  peer-words : (x : Peer) (mark handle minor : ℕ) → mark ≡ peerWordTold x 0 → handle ≡ peerWordTold x 1 → minor ≡ peerWordTold x 2 → SaysPeer mark handle minor x
-  unfolding SaysPeer peerWordTold
+  words-mark : (c p : ℕ) → c < channelCount → p < mostIds → peeredAt (wordsTold t) c p ≡ markTold (t .peers c p)
+  words-mark c p h b =
+      rw (words-peer c 0 (firstPeerWord + c * peerWords) h (omega arith) (omega arith))
+      (unfold peerWordTold pick in (marks-bit (t .peers c) mostIds p b))
+
+  words-handle : (c p : ℕ) → c < channelCount → p < mostIds → peerHandleAt (wordsTold t) c p ≡ peerHandleTold (t .peers c p)
+  unfolding peerWordTold pick
+  words-handle c p h b =
+      let x : markWords + p - markWords ≡ p = omega arith in
+      words-peer c (markWords + p) _ h (omega arith) (omega arith)
+      ∙ rw (le-ltb (markWords + p) markWords (omega arith), lt-ltb (markWords + p) (markWords + mostIds) (omega arith), x)
+
+  words-minor : (c p : ℕ) → c < channelCount → p < mostIds → peerMinorAt (wordsTold t) c p ≡ peerMinorTold (t .peers c p)
+  unfolding peerWordTold pick
+  words-minor c p h b =
+      let x : markWords + mostIds + p - markWords - mostIds ≡ p = omega arith in
+      words-peer c (markWords + mostIds + p) _ h (omega arith) (omega arith)
+      ∙ rw (le-ltb (markWords + mostIds + p) markWords (omega arith), le-ltb (markWords + mostIds + p) (markWords + mostIds) (omega arith), x)
+
+  peer-words : (x : Peer) (mark handle minor : ℕ) → mark ≡ markTold x → handle ≡ peerHandleTold x → minor ≡ peerMinorTold x → SaysPeer mark handle minor x
+  unfolding SaysPeer markTold peerHandleTold peerMinorTold
   peer-words noPeer mark handle minor p q r = p
   peer-words (peer h m) mark handle minor p q r = (p, q, r)
 
@@ -555,7 +602,7 @@ module _ (t : Told) (f : SoundTold t) where
     order = order-said (t .orders .order) _ _ (words-orders 2 (omega arith) ∙ unfold ordersTold in refl) (words-orders 3 (omega arith) ∙ unfold ordersTold in refl);
     ids = words-ids idCountWord (omega arith) (omega arith) ∙ setup-ids (t .lists) whole;
     id = words-id;
-    peer = λ c p h b. peer-words (t .peers c p) _ _ _ (words-peer c p 0 _ h b (omega arith) (omega arith)) (words-peer c p 1 _ h b (omega arith) (omega arith)) (words-peer c p 2 _ h b (omega arith) (omega arith));
+    peer = λ c p h b. peer-words (t .peers c p) _ _ _ (words-mark c p h b) (words-handle c p h b) (words-minor c p h b);
   }
 
 pub encoding : EncodingHolds

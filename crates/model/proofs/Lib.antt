@@ -1,5 +1,6 @@
 pub mod Choice
 pub mod Loops
+pub mod Marks
 pub mod Words
 pub mod RemovalWords
 pub mod Devices

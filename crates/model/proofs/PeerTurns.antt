@@ -9,13 +9,14 @@ use lib.ListN.{length, getD, set}
 use lib.Dec.{eqb, leb, ltb}
 use borrow.Author.Tests.{leb-true, le-leb, ltb-true, ltb-false, lt-ltb, eqb-true, eqb-false, ne-eqb, eq-eqb, not-true}
 use Rattle.model.specs.Choice.{pick, _and_, _or_, every, tabulate}
-use Rattle.model.specs.Layout.{idAt, idIn, idMinorPlace, idWords, idsOf, mostIds, mostPeers, channelCount, peerWords, idCountWord, firstIdWord, firstPeerWord, stateWords, readyAt, peeredAt, peerHandleAt, peerMinorAt, withPeer, withoutPeer}
+use Rattle.model.specs.Layout.{idAt, idIn, idMinorPlace, idWords, idsOf, mostIds, mostPeers, channelCount, markWords, peerWords, idCountWord, firstIdWord, firstPeerWord, stateWords, readyAt, peeredAt, peerHandleAt, peerMinorAt, withPeer, withoutPeer}
 use Rattle.model.specs.Peers.{topBit, isPeered, peeredAs, peersBelow, peerSound, peerApart, peersSound}
 use Rattle.model.specs.Journal.{fieldsOf}
 use Rattle.model.specs.Messages.{Effect}
 use Rattle.model.specs.Reading.{Peer, noPeer, peer, peerPlace, peersShown, hasHandle, endedFrom, readPeers}
 use Rattle.model.proofs.Choice.{clash, on-pick, pick-true, pick-false, both, join, every-at, every-make, tabulate-at, tabulate-same, tabulate-set}
-use Rattle.model.proofs.Words.{Agree, peer-frame, peer-mark, peer-handle, peer-minor, unpeer-frame, unpeer-mark}
+use Rattle.model.proofs.Marks.{bit-few}
+use Rattle.model.proofs.Words.{Agree, peer-frame, peer-mark, peer-mark-other, peer-handle, peer-minor, unpeer-frame, unpeer-mark, unpeer-mark-other}
 use Rattle.model.proofs.Peers.{OwnPeers, PeerTurn, peers-same, mark-same, handle-same, minor-same}
 
 -- A sound registration: none, or one of a listed id.
@@ -31,12 +32,17 @@ module _ (s : List ℕ) (ready c p : ℕ) where
       go : (b : Bool) → eqb (peeredAt s c p) 0 ≡ b → Registration s ready c p
       go true q = unpeered (eqb-true _ 0 q)
       go false q =
-          let f : (eqb (peeredAt s c p) 1 and eqb ready 1 and ltb p (idsOf s) and ltb (peerHandleAt s c p) topBit and leb (peerMinorAt s c p) (idAt s p .minor)) ≡ true = unfold peerSound _or_ in (rw q at e) in
-          let x = both _ _ f in
-          let y = both _ _ (x .1) in
+          let f : (eqb ready 1 and ltb p (idsOf s) and ltb (peerHandleAt s c p) topBit and leb (peerMinorAt s c p) (idAt s p .minor)) ≡ true = unfold peerSound _or_ in (rw q at e) in
+          let n = eqb-false (peeredAt s c p) 0 q in
+          let y = both _ _ f in
           let z = both _ _ (y .1) in
           let w = both _ _ (z .1) in
-          peered (eqb-true _ 1 (x .0)) (eqb-true _ 1 (y .0)) (ltb-true _ _ (z .0)) (ltb-true _ _ (w .0)) (leb-true _ _ (w .1))
+          peered (is-one (peeredAt s c p) (bit-few _ p) n) (eqb-true _ 1 (y .0)) (ltb-true _ _ (z .0)) (ltb-true _ _ (w .0)) (leb-true _ _ (w .1))
+        where
+          is-one : (x : ℕ) → x < 2 → (x ≡ 0 → ⊥) → x ≡ 1
+          is-one zero b n = absurd (n refl)
+          is-one (suc zero) b n = refl
+          is-one (suc (suc x)) b n = absurd (omega arith)
 
   pub registration-test : Registration s ready c p → peerSound s ready c p ≡ true
   unfolding peerSound _or_ _and_ idIn
@@ -103,15 +109,15 @@ module _ (s : List ℕ) (size : length s ≡ stateWords) (c p handle minor : ℕ
 
   mark-other : (q : ℕ) → q < mostIds → (q ≡ p → ⊥) → peeredAt made c q ≡ peeredAt s c q
   unfolding made
-  mark-other q b n = peer-frame s c p handle minor (firstPeerWord + c * peerWords + q) (λ e. n (omega arith)) (λ e. omega arith) (λ e. omega arith)
+  mark-other q b n = peer-mark-other s c p handle minor size h l q n
 
   handle-other : (q : ℕ) → q < mostIds → (q ≡ p → ⊥) → peerHandleAt made c q ≡ peerHandleAt s c q
   unfolding made
-  handle-other q b n = peer-frame s c p handle minor (firstPeerWord + c * peerWords + mostIds + q) (λ e. omega arith) (λ e. n (omega arith)) (λ e. omega arith)
+  handle-other q b n = peer-frame s c p handle minor (firstPeerWord + c * peerWords + markWords + q) (λ e. omega arith) (λ e. n (omega arith)) (λ e. omega arith)
 
   minor-other : (q : ℕ) → q < mostIds → (q ≡ p → ⊥) → peerMinorAt made c q ≡ peerMinorAt s c q
   unfolding made
-  minor-other q b n = peer-frame s c p handle minor (firstPeerWord + c * peerWords + mostIds + mostIds + q) (λ e. omega arith) (λ e. omega arith) (λ e. n (omega arith))
+  minor-other q b n = peer-frame s c p handle minor (firstPeerWord + c * peerWords + markWords + mostIds + q) (λ e. omega arith) (λ e. omega arith) (λ e. n (omega arith))
 
   own-mark : peeredAt made c p ≡ 1
   unfolding made
@@ -277,7 +283,7 @@ module _ (s : List ℕ) (size : length s ≡ stateWords) (c p : ℕ) (h : c < ch
   unmade : List ℕ
   unmade = withoutPeer s c p
 
-  unmade-frame : (j : ℕ) → (j ≡ firstPeerWord + c * peerWords + p → ⊥) → getD unmade j 0 ≡ getD s j 0
+  unmade-frame : (j : ℕ) → (j ≡ firstPeerWord + c * peerWords → ⊥) → getD unmade j 0 ≡ getD s j 0
   unfolding unmade
   unmade-frame j n = unpeer-frame s c p j n
 
@@ -295,13 +301,14 @@ module _ (s : List ℕ) (size : length s ≡ stateWords) (c p : ℕ) (h : c < ch
   mark-gone = unpeer-mark s c p 0 0 size h l
 
   mark-left : (q : ℕ) → q < mostIds → (q ≡ p → ⊥) → peeredAt unmade c q ≡ peeredAt s c q
-  mark-left q b n = unmade-frame (firstPeerWord + c * peerWords + q) (λ e. n (omega arith))
+  unfolding unmade
+  mark-left q b n = unpeer-mark-other s c p 0 0 size h l q n
 
   handle-left : (q : ℕ) → q < mostIds → peerHandleAt unmade c q ≡ peerHandleAt s c q
-  handle-left q b = unmade-frame (firstPeerWord + c * peerWords + mostIds + q) (λ e. omega arith)
+  handle-left q b = unmade-frame (firstPeerWord + c * peerWords + markWords + q) (λ e. omega arith)
 
   minor-left : (q : ℕ) → q < mostIds → peerMinorAt unmade c q ≡ peerMinorAt s c q
-  minor-left q b = unmade-frame (firstPeerWord + c * peerWords + mostIds + mostIds + q) (λ e. omega arith)
+  minor-left q b = unmade-frame (firstPeerWord + c * peerWords + markWords + mostIds + q) (λ e. omega arith)
 
   most-unmade : (q : ℕ) → q < mostIds → idAt unmade q .minor ≡ idAt s q .minor
   unfolding idIn

@@ -10,7 +10,7 @@ use lib.Dec.{eqb, leb, ltb}
 use borrow.Author.Tests.{leb-true, le-leb, ltb-true, ne-eqb, eqb-true, eqb-false}
 use Rattle.model.specs.Choice.{pick, _and_, _or_, every, clearedFrom, tabulate}
 use Rattle.model.specs.declared.Event.{Event}
-use Rattle.model.specs.Layout.{PeerId, idIn, idAt, idBytesIn, idByteIn, idsOf, wordBytes, idPlace, idBytesPlace, idMinorPlace, idWords, mostIds, mostIdBytes, highestMinor, channelCount, peerWords, idCountWord, firstIdWord, firstPeerWord, stateWords, readyAt, peeredAt, peerHandleAt, peerMinorAt, withChannel}
+use Rattle.model.specs.Layout.{PeerId, idIn, idAt, idBytesIn, idByteIn, idsOf, wordBytes, idPlace, idBytesPlace, idMinorPlace, idWords, mostIds, mostIdBytes, highestMinor, channelCount, markWords, peerWords, idCountWord, firstIdWord, firstPeerWord, stateWords, readyAt, peeredAt, peerHandleAt, peerMinorAt, withChannel}
 use Rattle.model.specs.Devices.{wordsHolding, paddingBytes, sameName}
 use Rattle.model.specs.Peers.{idBytesKeep, idKeeps, idApart, idsKeep, peersBelow, peerSound, peerApart, peersSound}
 use Rattle.model.specs.Journal.{kindNoted, kindReady, kindClosed, kindVersionRefused, kindPeerRegistered, kindPeerEnded, fieldsOf}
@@ -142,13 +142,13 @@ below-peers s t a j lo hi = a j lo (omega arith)
 
 module _ (s t : List ℕ) (i : Agree s t idCountWord firstPeerWord) (c : ℕ) (h : c < channelCount) (a : OwnPeers s t c) where
   pub mark-same : (p : ℕ) → p < mostIds → peeredAt t c p ≡ peeredAt s c p
-  mark-same p l = a (firstPeerWord + c * peerWords + p) (omega arith) (omega arith)
+  mark-same p l = rw (a (firstPeerWord + c * peerWords) (omega arith) (omega arith))
 
   pub handle-same : (p : ℕ) → p < mostIds → peerHandleAt t c p ≡ peerHandleAt s c p
-  handle-same p l = a (firstPeerWord + c * peerWords + mostIds + p) (omega arith) (omega arith)
+  handle-same p l = a (firstPeerWord + c * peerWords + markWords + p) (omega arith) (omega arith)
 
   pub minor-same : (p : ℕ) → p < mostIds → peerMinorAt t c p ≡ peerMinorAt s c p
-  minor-same p l = a (firstPeerWord + c * peerWords + mostIds + mostIds + p) (omega arith) (omega arith)
+  minor-same p l = a (firstPeerWord + c * peerWords + markWords + mostIds + p) (omega arith) (omega arith)
 
   pub most-same : (p : ℕ) → p < mostIds → idAt t p .minor ≡ idAt s p .minor
   unfolding idIn
@@ -264,7 +264,7 @@ module _ (s : List ℕ) (size : length s ≡ stateWords) (c ready : ℕ) (h : c 
   ids-frame j lo hi = channel-frame s c ready j (λ q. omega arith) (λ p q. omega arith) hi
 
   others-frame : (k : ℕ) → k < channelCount → (k ≡ c → ⊥) → OwnPeers s (withChannel s c ready) k
-  others-frame k l n j lo hi = channel-peers s c ready j h (omega arith) (λ p q. n (omega arith))
+  others-frame k l n j lo hi = channel-peers s c ready j h (omega arith) (λ q. n (omega arith))
 
   dropped-shown : peersShown (withChannel s c ready) ≡ clearedFrom noPeer (peersShown s) (peerPlace c 0) mostIds
   unfolding peersShown pick

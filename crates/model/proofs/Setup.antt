@@ -23,6 +23,7 @@ use Rattle.model.proofs.Words.{sets-below, sets-above, sets-at, removal
 use Rattle.model.proofs.View.{Shape, channels-same, services-same, block-same, counts-view}
 use Rattle.model.proofs.Above.{orders-kept, orders-shown-same}
 use Rattle.model.proofs.Devices.{shown-same as devices-shown-same, SameWords, device-facts, name-few, flag-few, devices-keep, device-same}
+use Rattle.model.proofs.Marks.{no-bit}
 use Rattle.model.proofs.Peers.{SameIdWords, id-facts, id-few, ids-keep, unmarked-sound, peers-shown-same, ids-listed, ids-shown-same}
 use Rattle.model.proofs.Rules.{service-idle}
 use Rattle.model.proofs.Sounds.{removes-none, sound-counted}
@@ -245,7 +246,7 @@ module _ (l : Lists) (w : WholeLists l) where
       ∙ getD-replicate {A = ℕ} stateWords j 0 0 g
 
   setup-unpeered : (c : ℕ) → c < channelCount → (p : ℕ) → p < mostIds → peeredAt (setupState l) c p ≡ 0
-  setup-unpeered c h p b = top (firstPeerWord + c * peerWords + p) (omega arith) (omega arith)
+  setup-unpeered c h p b = rw (top (firstPeerWord + c * peerWords) (omega arith) (omega arith)) (no-bit p)
 
   setup-peers : peersShown (setupState l) ≡ setupPeers
   unfolding peersShown pick

@@ -11,7 +11,8 @@ use lib.Dec.{ltb}
 use borrow.Author.Tests.{ltb-true, ltb-false}
 use Rattle.model.specs.Choice.{tabulate}
 use Rattle.model.specs.declared.Removal.{Removal}
-use Rattle.model.specs.Layout.{isSet, wordOf, removalOf, removalHead, withChannel, withService, withConfigured, withCounts, withRemoval, withoutRemoval, outstandingOf, cancelledOf, blockWords, cancelledWord, channelCount, channelWords, collectedWord, configuredPlace, countWord, firstAddressWord, firstBlockWord, firstResultWord, firstSizeWord, firstStageWord, heldWord, lastWord, mostRecords, outstandingWord, placeCount, positionWord, removalChannelWord, removalHandleWord, removalWords, requestWord, serviceWords, stateWords, headWords, firstNumberedWord, numberWords, withNumber, mostBlocks, deviceConfiguredPlace, deviceCountWord, deviceWords, firstDeviceWord, mostDevices, withDevice, serviceCount, shutdownService, firstPermissionWord, orderWord, permissionAt, orderOf, delayOf, withPermission, withOrder, mostIds, peerWords, firstPeerWord, peeredAt, peerHandleAt, peerMinorAt, withPeer, withoutPeer}
+use Rattle.model.proofs.Marks.{no-bit, set-same, set-other, cleared-same, cleared-other}
+use Rattle.model.specs.Layout.{isSet, wordOf, removalOf, removalHead, withChannel, withService, withConfigured, withCounts, withRemoval, withoutRemoval, outstandingOf, cancelledOf, blockWords, cancelledWord, channelCount, channelWords, collectedWord, configuredPlace, countWord, firstAddressWord, firstBlockWord, firstResultWord, firstSizeWord, firstStageWord, heldWord, lastWord, mostRecords, outstandingWord, placeCount, positionWord, removalChannelWord, removalHandleWord, removalWords, requestWord, serviceWords, stateWords, headWords, firstNumberedWord, numberWords, withNumber, mostBlocks, deviceConfiguredPlace, deviceCountWord, deviceWords, firstDeviceWord, mostDevices, withDevice, serviceCount, shutdownService, firstPermissionWord, orderWord, permissionAt, orderOf, delayOf, withPermission, withOrder, mostIds, markWords, peerWords, firstPeerWord, bitSet, bitCleared, marksAt, peeredAt, peerHandleAt, peerMinorAt, withPeer, withoutPeer}
 use Rattle.model.proofs.Choice.{tabulate-at, tabulate-length, tabulate-same}
 
 -- A run of stores: before it, after it, outside it, inside it.
@@ -88,12 +89,12 @@ module _ (s : List ℕ) (c ready j : ℕ) where
   -- below the peers' words, and among them
   pub channel-frame : (j ≡ c → ⊥) → (firstStageWord + c * channelWords ≤ j → j < firstStageWord + channelWords + c * channelWords → ⊥) → j < firstPeerWord → getD (withChannel s c ready) j 0 ≡ getD s j 0
   unfolding withChannel idled
-  channel-frame n m b = sets-below (idled s c ready) (replicate mostIds 0) (firstPeerWord + c * peerWords) j (omega arith) ∙ idled-else n m
+  channel-frame n m b = getD-set-other (idled s c ready) (firstPeerWord + c * peerWords) j _ 0 (λ q. omega arith) ∙ idled-else n m
 
-  pub channel-peers : c < channelCount → firstPeerWord ≤ j → (firstPeerWord + c * peerWords ≤ j → j < firstPeerWord + c * peerWords + mostIds → ⊥) → getD (withChannel s c ready) j 0 ≡ getD s j 0
+  pub channel-peers : c < channelCount → firstPeerWord ≤ j → (j ≡ firstPeerWord + c * peerWords → ⊥) → getD (withChannel s c ready) j 0 ≡ getD s j 0
   unfolding withChannel idled
   channel-peers h b n =
-      sets-else (idled s c ready) (replicate mostIds 0) (firstPeerWord + c * peerWords) j (λ p q. n p (omega arith))
+      getD-set-other (idled s c ready) (firstPeerWord + c * peerWords) j _ 0 n
       ∙ idled-else (λ q. omega arith) (λ p q. omega arith)
 
 idled-length : (s : List ℕ) (c ready : ℕ) → length (idled s c ready) ≡ length s
@@ -102,7 +103,7 @@ idled-length s c ready = length-sets (set s c ready) (firstStageWord + c * chann
 
 pub channel-length : (s : List ℕ) (c ready : ℕ) → length (withChannel s c ready) ≡ length s
 unfolding withChannel idled
-channel-length s c ready = length-sets (idled s c ready) (firstPeerWord + c * peerWords) (replicate mostIds 0) ∙ idled-length s c ready
+channel-length s c ready = length-set (idled s c ready) (firstPeerWord + c * peerWords) _ ∙ idled-length s c ready
 
 -- an outstanding removal's words
 module _ (s : List ℕ) (m : Removal) where
@@ -333,13 +334,13 @@ module _ (s : List ℕ) (c ready : ℕ) (n : length s ≡ stateWords) (b : c < c
   pub channel-ready : getD (withChannel s c ready) c 0 ≡ ready
   unfolding withChannel idled
   channel-ready =
-      sets-below (idled s c ready) (replicate mostIds 0) (firstPeerWord + c * peerWords) c (omega arith)
+      getD-set-other (idled s c ready) (firstPeerWord + c * peerWords) c _ 0 (λ q. omega arith)
       ∙ sets-below (set s c ready) (replicate channelWords 0) (firstStageWord + c * channelWords) c (omega arith) ∙ getD-set-same s c ready 0 (omega arith)
 
   pub channel-zero : (i : ℕ) → i < channelWords → getD (withChannel s c ready) (firstStageWord + c * channelWords + i) 0 ≡ 0
   unfolding withChannel idled
   channel-zero i h =
-      sets-below (idled s c ready) (replicate mostIds 0) (firstPeerWord + c * peerWords) (firstStageWord + c * channelWords + i) (omega arith)
+      getD-set-other (idled s c ready) (firstPeerWord + c * peerWords) (firstStageWord + c * channelWords + i) _ 0 (λ q. omega arith)
       ∙ sets-at (set s c ready) (replicate channelWords 0) (firstStageWord + c * channelWords) i (omega arith) (omega (arith, length-set s c ready))
       ∙ getD-replicate channelWords i 0 0 h
 
@@ -347,8 +348,7 @@ module _ (s : List ℕ) (c ready : ℕ) (n : length s ≡ stateWords) (b : c < c
 pub channel-unpeered : (s : List ℕ) (c ready : ℕ) → length s ≡ stateWords → c < channelCount → (p : ℕ) → p < mostIds → peeredAt (withChannel s c ready) c p ≡ 0
 unfolding withChannel idled
 channel-unpeered s c ready n b p h =
-    sets-at (idled s c ready) (replicate mostIds 0) (firstPeerWord + c * peerWords) p (omega arith) (omega (arith, idled-length s c ready))
-    ∙ getD-replicate mostIds p 0 0 h
+    rw (getD-set-same (idled s c ready) (firstPeerWord + c * peerWords) 0 0 (omega (arith, idled-length s c ready))) (no-bit p)
 
 pub configured-word : (s : List ℕ) (i flag : ℕ) → length s ≡ stateWords → i < mostBlocks → getD (withConfigured s i flag) (firstBlockWord + i * blockWords + configuredPlace) 0 ≡ flag
 unfolding withConfigured
@@ -416,54 +416,66 @@ module _ (s : List ℕ) (order delay : ℕ) (n : length s ≡ stateWords) where
 
 -- a peer registration made, and ended
 module _ (s : List ℕ) (c p handle minor : ℕ) where
-  pub peer-frame : (j : ℕ) → (j ≡ firstPeerWord + c * peerWords + p → ⊥) → (j ≡ firstPeerWord + c * peerWords + mostIds + p → ⊥) → (j ≡ firstPeerWord + c * peerWords + mostIds + mostIds + p → ⊥) → getD (withPeer s c p handle minor) j 0 ≡ getD s j 0
-  unfolding withPeer
+  marked : List ℕ
+  marked = set s (firstPeerWord + c * peerWords) (bitSet (marksAt s c) p)
+
+  handled : List ℕ
+  handled = set marked (firstPeerWord + c * peerWords + markWords + p) handle
+
+  pub peer-frame : (j : ℕ) → (j ≡ firstPeerWord + c * peerWords → ⊥) → (j ≡ firstPeerWord + c * peerWords + markWords + p → ⊥) → (j ≡ firstPeerWord + c * peerWords + markWords + mostIds + p → ⊥) → getD (withPeer s c p handle minor) j 0 ≡ getD s j 0
+  unfolding withPeer marked handled
   peer-frame j n m o =
-      getD-set-other (set (set s (firstPeerWord + c * peerWords + p) 1) (firstPeerWord + c * peerWords + mostIds + p) handle) (firstPeerWord + c * peerWords + mostIds + mostIds + p) j minor 0 o
-      ∙ getD-set-other (set s (firstPeerWord + c * peerWords + p) 1) (firstPeerWord + c * peerWords + mostIds + p) j handle 0 m
-      ∙ getD-set-other s (firstPeerWord + c * peerWords + p) j 1 0 n
+      getD-set-other handled (firstPeerWord + c * peerWords + markWords + mostIds + p) j minor 0 o
+      ∙ getD-set-other marked (firstPeerWord + c * peerWords + markWords + p) j handle 0 m
+      ∙ getD-set-other s (firstPeerWord + c * peerWords) j (bitSet (marksAt s c) p) 0 n
 
   pub peer-length : length (withPeer s c p handle minor) ≡ length s
-  unfolding withPeer
+  unfolding withPeer marked handled
   peer-length =
-      length-set (set (set s (firstPeerWord + c * peerWords + p) 1) (firstPeerWord + c * peerWords + mostIds + p) handle) (firstPeerWord + c * peerWords + mostIds + mostIds + p) minor
-      ∙ length-set (set s (firstPeerWord + c * peerWords + p) 1) (firstPeerWord + c * peerWords + mostIds + p) handle
-      ∙ length-set s (firstPeerWord + c * peerWords + p) 1
+      length-set handled (firstPeerWord + c * peerWords + markWords + mostIds + p) minor
+      ∙ length-set marked (firstPeerWord + c * peerWords + markWords + p) handle
+      ∙ length-set s (firstPeerWord + c * peerWords) (bitSet (marksAt s c) p)
 
-pub unpeer-frame : (s : List ℕ) (c p j : ℕ) → (j ≡ firstPeerWord + c * peerWords + p → ⊥) → getD (withoutPeer s c p) j 0 ≡ getD s j 0
+pub unpeer-frame : (s : List ℕ) (c p j : ℕ) → (j ≡ firstPeerWord + c * peerWords → ⊥) → getD (withoutPeer s c p) j 0 ≡ getD s j 0
 unfolding withoutPeer
-unpeer-frame s c p j n = getD-set-other s (firstPeerWord + c * peerWords + p) j 0 0 n
+unpeer-frame s c p j n = getD-set-other s (firstPeerWord + c * peerWords) j (bitCleared (marksAt s c) p) 0 n
 
 pub unpeer-length : (s : List ℕ) (c p : ℕ) → length (withoutPeer s c p) ≡ length s
 unfolding withoutPeer
-unpeer-length s c p = length-set s (firstPeerWord + c * peerWords + p) 0
+unpeer-length s c p = length-set s (firstPeerWord + c * peerWords) (bitCleared (marksAt s c) p)
 
 module _ (s : List ℕ) (c p handle minor : ℕ) (n : length s ≡ stateWords) (h : c < channelCount) (l : p < mostIds) where
-  marked : List ℕ
-  marked = set s (firstPeerWord + c * peerWords + p) 1
-
-  handled : List ℕ
-  handled = set marked (firstPeerWord + c * peerWords + mostIds + p) handle
+  marks-made : marksAt (withPeer s c p handle minor) c ≡ bitSet (marksAt s c) p
+  unfolding withPeer marked handled
+  marks-made =
+      getD-set-other (handled s c p handle minor) (firstPeerWord + c * peerWords + markWords + mostIds + p) (firstPeerWord + c * peerWords) minor 0 (λ q. omega arith)
+      ∙ getD-set-other (marked s c p handle minor) (firstPeerWord + c * peerWords + markWords + p) (firstPeerWord + c * peerWords) handle 0 (λ q. omega arith)
+      ∙ getD-set-same s (firstPeerWord + c * peerWords) (bitSet (marksAt s c) p) 0 (omega arith)
 
   pub peer-mark : peeredAt (withPeer s c p handle minor) c p ≡ 1
-  unfolding withPeer marked handled
-  peer-mark =
-      getD-set-other handled (firstPeerWord + c * peerWords + mostIds + mostIds + p) (firstPeerWord + c * peerWords + p) minor 0 (λ q. omega arith)
-      ∙ getD-set-other marked (firstPeerWord + c * peerWords + mostIds + p) (firstPeerWord + c * peerWords + p) handle 0 (λ q. omega arith)
-      ∙ getD-set-same s (firstPeerWord + c * peerWords + p) 1 0 (omega arith)
+  peer-mark = rw marks-made (set-same (marksAt s c) p)
+
+  pub peer-mark-other : (q : ℕ) → (q ≡ p → ⊥) → peeredAt (withPeer s c p handle minor) c q ≡ peeredAt s c q
+  peer-mark-other q o = rw marks-made (set-other (marksAt s c) p q o)
 
   pub peer-handle : peerHandleAt (withPeer s c p handle minor) c p ≡ handle
   unfolding withPeer marked handled
   peer-handle =
-      getD-set-other handled (firstPeerWord + c * peerWords + mostIds + mostIds + p) (firstPeerWord + c * peerWords + mostIds + p) minor 0 (λ q. omega arith)
-      ∙ getD-set-same marked (firstPeerWord + c * peerWords + mostIds + p) handle 0 (omega (arith, length-set s (firstPeerWord + c * peerWords + p) 1))
+      getD-set-other (handled s c p handle minor) (firstPeerWord + c * peerWords + markWords + mostIds + p) (firstPeerWord + c * peerWords + markWords + p) minor 0 (λ q. omega arith)
+      ∙ getD-set-same (marked s c p handle minor) (firstPeerWord + c * peerWords + markWords + p) handle 0 (omega (arith, length-set s (firstPeerWord + c * peerWords) (bitSet (marksAt s c) p)))
 
   pub peer-minor : peerMinorAt (withPeer s c p handle minor) c p ≡ minor
   unfolding withPeer marked handled
   peer-minor =
-      getD-set-same handled (firstPeerWord + c * peerWords + mostIds + mostIds + p) minor 0
-      (omega (arith, length-set s (firstPeerWord + c * peerWords + p) 1, length-set marked (firstPeerWord + c * peerWords + mostIds + p) handle))
+      getD-set-same (handled s c p handle minor) (firstPeerWord + c * peerWords + markWords + mostIds + p) minor 0
+      (omega (arith, length-set s (firstPeerWord + c * peerWords) (bitSet (marksAt s c) p), length-set (marked s c p handle minor) (firstPeerWord + c * peerWords + markWords + p) handle))
+
+  marks-left : marksAt (withoutPeer s c p) c ≡ bitCleared (marksAt s c) p
+  unfolding withoutPeer
+  marks-left = getD-set-same s (firstPeerWord + c * peerWords) (bitCleared (marksAt s c) p) 0 (omega arith)
 
   pub unpeer-mark : peeredAt (withoutPeer s c p) c p ≡ 0
-  unfolding withoutPeer
-  unpeer-mark = getD-set-same s (firstPeerWord + c * peerWords + p) 0 0 (omega arith)
+  unpeer-mark = rw marks-left (cleared-same (marksAt s c) p)
+
+  pub unpeer-mark-other : (q : ℕ) → (q ≡ p → ⊥) → peeredAt (withoutPeer s c p) c q ≡ peeredAt s c q
+  unpeer-mark-other q o = rw marks-left (cleared-other (marksAt s c) p q o)

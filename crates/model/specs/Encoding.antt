@@ -1,17 +1,18 @@
 -- The refusal numbers "are given in no other case", and so 8: a state as 01 and 02 tell it, the words that say it, and the claim that a sound one has words
 -- and that all words that say it are accepted, whatever those without a meaning in it hold.
 -- Assumes nothing.
-use Prim.Native.Nat.{ℕ, zero, suc, _+_, _*_, _/_, _%_, _≤_, _<_}
+use Prim.Native.Nat.{ℕ, zero, suc, _+_, _-_, _*_, _/_, _%_, _^_, _≤_, _<_}
 use mathlib.Core.Path.{_≡_}
 use mathlib.Core.Bool.{Bool, true}
 use mathlib.Core.List.{List, [], _∷_}
 use lib.ListN.{length, getD}
 use lib.Seq.{sets}
+use lib.Dec.{ltb}
 use Rattle.model.specs.Choice.{pick, tabulate, firstBelow}
 use Rattle.model.specs.declared.Found.{Found}
 use Rattle.model.specs.declared.Found.the-variants.{At}
 use Rattle.model.specs.declared.Removal.{Removal}
-use Rattle.model.specs.Layout.{channelCount, serviceCount, placeCount, mostRecords, mostHeld, highestNumber, highestMinor, stageIdle, stageOffered, stageRegistered, blockWords, stateWords, readyAt, stageAt, handleAt, minorAt, blocksOf, blockIn, blockAt, lastOf, heldOf, outstandingOf, cancelledOf, wordOf, removalOf, withService, withCounts, withRemoval, deviceWords, namePlace, firstDeviceWord, devicesOf, nameBytesIn, shutdownService, panicService, firstPermissionWord, orderNone, orderShutdown, orderPanic, highestDelay, permissionAt, orderOf, delayOf, mostIds, mostPeers, idWords, idPlace, firstIdWord, firstPeerWord, peerWords, idsOf, idIn, idBytesIn, peeredAt, peerHandleAt, peerMinorAt}
+use Rattle.model.specs.Layout.{channelCount, serviceCount, placeCount, mostRecords, mostHeld, highestNumber, highestMinor, stageIdle, stageOffered, stageRegistered, blockWords, stateWords, readyAt, stageAt, handleAt, minorAt, blocksOf, blockIn, blockAt, lastOf, heldOf, outstandingOf, cancelledOf, wordOf, removalOf, withService, withCounts, withRemoval, deviceWords, namePlace, firstDeviceWord, devicesOf, nameBytesIn, shutdownService, panicService, firstPermissionWord, orderNone, orderShutdown, orderPanic, highestDelay, permissionAt, orderOf, delayOf, mostIds, mostPeers, idWords, idPlace, firstIdWord, firstPeerWord, markWords, peerWords, idsOf, idIn, idBytesIn, peeredAt, peerHandleAt, peerMinorAt}
 use Rattle.model.specs.Devices.{wordsHolding}
 use Rattle.model.specs.Blocks.{Lists, acceptedLists, setupState, names}
 use Rattle.model.specs.Peers.{topBit}
@@ -70,7 +71,7 @@ pub record RemovalTold (l : List ℕ) (last : ℕ) (m : Removal) : Type 0 where
   pub collects : CollectedTold l m
   pub results : (i : ℕ) → i < m .position → ResultTold (getD (m .result) i 0)
 
--- whether there is a peer registration, as a word
+-- whether there is a peer registration, as a bit
 unfoldable pub markTold : Peer → ℕ
 markTold noPeer = 0
 markTold (peer handle minor) = 1
@@ -146,7 +147,7 @@ SaysOrder order delay noOrder = order ≡ orderNone
 SaysOrder order delay (shutdown d) = (order ≡ orderShutdown) × (delay ≡ d)
 SaysOrder order delay panic = order ≡ orderPanic
 
--- three words say a peer registration
+-- a mark and two words say a peer registration
 unfoldable pub SaysPeer : ℕ → ℕ → ℕ → Peer → Type 0
 SaysPeer mark handle minor noPeer = mark ≡ 0
 SaysPeer mark handle minor (peer h m) = (mark ≡ 1) × (handle ≡ h) × (minor ≡ m)
@@ -237,13 +238,26 @@ unfoldable pub ordersTold : Orders → List ℕ
 ordersTold o =
     wordOf (o .shutdownPermitted) ∷ wordOf (o .panicPermitted) ∷ orderTold (o .order) ∷ delayTold (o .order) ∷ []
 
--- the peer registrations: of each channel the marks, the handles, the minor versions
-unfoldable pub peerWordTold : Peer → ℕ → ℕ
-peerWordTold noPeer part = 0
-peerWordTold (peer handle minor) part = getD (1 ∷ handle ∷ minor ∷ []) part 0
+-- the peer registrations: of each channel the marks of the first n ids in one word, then the handles, then the minor versions
+unfoldable pub marksTold : (ℕ → Peer) → ℕ → ℕ
+marksTold ps zero = 0
+marksTold ps (suc p) = markTold (ps p) * 2 ^ p + marksTold ps p
+
+unfoldable pub peerHandleTold : Peer → ℕ
+peerHandleTold noPeer = 0
+peerHandleTold (peer handle minor) = handle
+
+unfoldable pub peerMinorTold : Peer → ℕ
+peerMinorTold noPeer = 0
+peerMinorTold (peer handle minor) = minor
+
+unfoldable pub peerWordTold : (ℕ → Peer) → ℕ → ℕ
+peerWordTold ps j =
+    pick (ltb j markWords) (marksTold ps mostIds)
+    (pick (ltb j (markWords + mostIds)) (peerHandleTold (ps (j - markWords))) (peerMinorTold (ps (j - markWords - mostIds))))
 
 unfoldable pub peersTold : (ℕ → ℕ → Peer) → List ℕ
-peersTold ps = tabulate (λ j. peerWordTold (ps (j / peerWords) (j % mostIds)) (j % peerWords / mostIds)) (channelCount * peerWords)
+peersTold ps = tabulate (λ j. peerWordTold (ps (j / peerWords)) (j % peerWords)) (channelCount * peerWords)
 
 -- all but the removal
 unfoldable pub lowTold : Told → List ℕ

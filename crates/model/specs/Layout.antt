@@ -12,13 +12,14 @@
 --   the number of devices; device i: id, configured (0 or 1), busy (0 or 1), the bytes of its name with the zero, the words of its name
 --   services 2 and 3: 1 if requests to it are permitted, else 0; the order that waits (0 none, 1 shutdown, 2 panic), a shutdown's delay
 --   the number of peer ids; id p: major, highest minor, how many bytes it has with the zero, the words that hold it
---   channel c: for each place of an id 1 if the peer has it registered there, else 0; then the handles; then the minor versions
+--   channel c: the marks, in one word: bit p is 1 if the peer has the id at place p registered there, else 0; then the handles; then the minor versions
 -- Assumes nothing.
 use Prim.Native.Nat.{ℕ, _+_, _-_, _*_, _/_, _%_, _^_}
 use mathlib.Core.Bool.{Bool, true, false, not}
 use mathlib.Core.List.{List, [], _∷_}
 use lib.ListN.{getD, set, replicate}
 use lib.Seq.{sets}
+use lib.Bits.{bitAnd, bitOr, bitXor}
 use lib.Dec.{eqb}
 use Rattle.model.specs.Choice.{tabulate, halvings}
 use Rattle.model.specs.declared.Removal.{Removal}
@@ -320,12 +321,15 @@ idCountWord = delayWord + 1
 abbrev pub firstIdWord : ℕ
 firstIdWord = idCountWord + 1
 
--- a channel's peer registrations: whether each id is registered, their handles, their minor versions
+-- a channel's peer registrations: a word with a mark for each id that is registered, the handles, the minor versions
 abbrev pub firstPeerWord : ℕ
 firstPeerWord = firstIdWord + mostIds * idWords
 
+abbrev pub markWords : ℕ
+markWords = 1
+
 abbrev pub peerWords : ℕ
-peerWords = mostIds * 3
+peerWords = markWords + mostIds * 2
 
 abbrev pub stateWords : ℕ
 stateWords = firstPeerWord + channelCount * peerWords
@@ -474,15 +478,28 @@ idsOf s = getD s idCountWord 0
 abbrev pub idAt : List ℕ → ℕ → PeerId
 idAt s p = idIn s firstIdWord p
 
+-- bit p of a word, the least significant is bit 0; the word with that bit set, and with it cleared
+unfoldable pub bitOf : ℕ → ℕ → ℕ
+bitOf w p = w / 2 ^ p % 2
+
+unfoldable pub bitSet : ℕ → ℕ → ℕ
+bitSet w p = bitOr w (2 ^ p)
+
+unfoldable pub bitCleared : ℕ → ℕ → ℕ
+bitCleared w p = bitXor w (bitAnd w (2 ^ p))
+
 -- channel c's peer registration of id p: whether there is one, its handle and its minor version
+abbrev pub marksAt : List ℕ → ℕ → ℕ
+marksAt s c = getD s (firstPeerWord + c * peerWords) 0
+
 abbrev pub peeredAt : List ℕ → ℕ → ℕ → ℕ
-peeredAt s c p = getD s (firstPeerWord + c * peerWords + p) 0
+peeredAt s c p = bitOf (marksAt s c) p
 
 abbrev pub peerHandleAt : List ℕ → ℕ → ℕ → ℕ
-peerHandleAt s c p = getD s (firstPeerWord + c * peerWords + mostIds + p) 0
+peerHandleAt s c p = getD s (firstPeerWord + c * peerWords + markWords + p) 0
 
 abbrev pub peerMinorAt : List ℕ → ℕ → ℕ → ℕ
-peerMinorAt s c p = getD s (firstPeerWord + c * peerWords + mostIds + mostIds + p) 0
+peerMinorAt s c p = getD s (firstPeerWord + c * peerWords + markWords + mostIds + p) 0
 
 -- a word as a test, and a test as a word
 abbrev pub isSet : ℕ → Bool
@@ -520,7 +537,7 @@ removalHead m =
 -- a channel ready (1) or closed (0), all its services idle, and no peer registration (02, ticket 7: "INIT_REQ and closing drop them")
 unfoldable pub withChannel : List ℕ → ℕ → ℕ → List ℕ
 withChannel s c ready =
-    sets (sets (set s c ready) (firstStageWord + c * channelWords) (replicate channelWords 0)) (firstPeerWord + c * peerWords) (replicate mostIds 0)
+    set (sets (set s c ready) (firstStageWord + c * channelWords) (replicate channelWords 0)) (firstPeerWord + c * peerWords) 0
 
 unfoldable pub withService : List ℕ → ℕ → ℕ → ℕ → ℕ → List ℕ
 withService s k stage handle minor = sets s (firstStageWord + k * serviceWords) (stage ∷ handle ∷ minor ∷ [])
@@ -557,7 +574,7 @@ withOrder s order delay = sets s orderWord (order ∷ delay ∷ [])
 -- channel c's peer registration of id p: made, and ended
 unfoldable pub withPeer : List ℕ → ℕ → ℕ → ℕ → ℕ → List ℕ
 withPeer s c p handle minor =
-    set (set (set s (firstPeerWord + c * peerWords + p) 1) (firstPeerWord + c * peerWords + mostIds + p) handle) (firstPeerWord + c * peerWords + mostIds + mostIds + p) minor
+    set (set (set s (firstPeerWord + c * peerWords) (bitSet (marksAt s c) p)) (firstPeerWord + c * peerWords + markWords + p) handle) (firstPeerWord + c * peerWords + markWords + mostIds + p) minor
 
 unfoldable pub withoutPeer : List ℕ → ℕ → ℕ → List ℕ
-withoutPeer s c p = set s (firstPeerWord + c * peerWords + p) 0
+withoutPeer s c p = set s (firstPeerWord + c * peerWords) (bitCleared (marksAt s c) p)

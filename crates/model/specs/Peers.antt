@@ -63,8 +63,7 @@ peersBelow s c (suc p) = peersBelow s c p + peeredAt s c p
 unfoldable pub peerSound : List ℕ → ℕ → ℕ → ℕ → Bool
 peerSound s ready c p =
     eqb (peeredAt s c p) 0
-    or (eqb (peeredAt s c p) 1
-    and eqb ready 1
+    or (eqb ready 1
     and ltb p (idsOf s)
     and ltb (peerHandleAt s c p) topBit
     and leb (peerMinorAt s c p) (idAt s p .minor))

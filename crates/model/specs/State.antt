@@ -1,9 +1,9 @@
 -- "A state is sound if ..", and by 02, ticket 8, "a state with last number 0 is not sound". Beyond the sentences of 01 and 02 a word that no reading could mean (a ready, configured, busy, outstanding or cancelled flag above 1, a
 -- byte other than 0 after a device's name or an id in its last word, a permission above 1, an order above 2, a shutdown's delay of more than 32 bits, a stage above
--- 2, a registered minor, or an id's major or minor, above 65,535, a mark of a peer registration above 1, a settled record's result other than OK or NOWORK) makes a
+-- 2, a registered minor, or an id's major or minor, above 65,535, a settled record's result other than OK or NOWORK) makes a
 -- state not sound. Words without a meaning in the present state (an idle service's handle and minor, an offered one's minor, blocks past the count, a removal's
 -- words while none is outstanding, its records past the count, results from the position on, devices and ids past the count, words past a device's name or an id,
--- the handle and minor of an id that is not registered, the delay without a shutdown's order) are free, and so are the words of request numbers, in which any
+-- the marks' bits past place 15, the handle and minor of an id that is not registered, the delay without a shutdown's order) are free, and so are the words of request numbers, in which any
 -- number means something.
 -- Assumes nothing.
 use Prim.Native.Nat.{ℕ, _+_, _/_}

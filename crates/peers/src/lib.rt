@@ -6,6 +6,7 @@ use model::Found;
 use model::ID_COUNT_WORD;
 use model::ID_MINOR_PLACE;
 use model::ID_WORDS;
+use model::MARK_WORDS;
 use model::MOST_IDS;
 use model::MOST_PEERS;
 use model::PEER_WORDS;
@@ -13,34 +14,42 @@ use model::State;
 use model::TOP_BIT;
 ghost use mathlib.Core.Path.{_≡_};
 ghost use mathlib.Core.Bool.{true, not};
-ghost use Prim.Native.Nat.{ℕ, _<_, _≤_};
+ghost use Prim.Native.Nat.{ℕ, _<_};
 ghost use lib.Dec.{eqb};
 ghost use Rattle.model.specs.Choice.{_or_, every, isFound};
-ghost use Rattle.model.specs.Layout.{channelCount, mostIds, peeredAt, peerHandleAt, peerMinorAt, readyAt, withPeer, withoutPeer};
+ghost use Rattle.model.specs.Layout.{channelCount, marksAt, mostIds, peeredAt, peerHandleAt, peerMinorAt, readyAt, withPeer, withoutPeer};
 ghost use Rattle.model.specs.Peers.{isPeered, peerApart, peeredAs, peerFor, peersBelow, peerSound, peersSound};
 
 // Reads.
 
-// 1 where the peer has id p registered on the channel.
+// The channel's marks, a bit for each id.
+fn marks_of(state: &State, channel: usize) -> u64
+    requires { ⌜ channel < channelCount ⌝ }
+    ensures { λ r. ⌜ r ≡ marksAt (now (state .entry)) channel ⌝ }
+{
+    state[FIRST_PEER_WORD + channel * PEER_WORDS]
+}
+
+// 1 where the peer has id p registered on the channel, else 0.
 fn mark_of(state: &State, channel: usize, p: usize) -> u64
     requires { ⌜ (channel < channelCount) × (p < mostIds) ⌝ }
     ensures { λ r. ⌜ r ≡ peeredAt (now (state .entry)) channel p ⌝ }
 {
-    state[FIRST_PEER_WORD + channel * PEER_WORDS + p]
+    (marks_of(state, channel) >> p) % 2
 }
 
 pub fn handle_of(state: &State, channel: usize, p: usize) -> u64
     requires { ⌜ (channel < channelCount) × (p < mostIds) ⌝ }
     ensures { λ r. ⌜ r ≡ peerHandleAt (now (state .entry)) channel p ⌝ }
 {
-    state[FIRST_PEER_WORD + channel * PEER_WORDS + MOST_IDS + p]
+    state[FIRST_PEER_WORD + channel * PEER_WORDS + MARK_WORDS + p]
 }
 
 pub fn minor_of(state: &State, channel: usize, p: usize) -> u64
     requires { ⌜ (channel < channelCount) × (p < mostIds) ⌝ }
     ensures { λ r. ⌜ r ≡ peerMinorAt (now (state .entry)) channel p ⌝ }
 {
-    state[FIRST_PEER_WORD + channel * PEER_WORDS + MOST_IDS + MOST_IDS + p]
+    state[FIRST_PEER_WORD + channel * PEER_WORDS + MARK_WORDS + MOST_IDS + p]
 }
 
 // The peer has id p registered on the channel.
@@ -89,9 +98,9 @@ pub fn has_handle(state: &State, channel: usize, handle: u64) -> bool
     }
 }
 
-// How many marks there are, each 0 or 1.
-fn count_marks(state: &State, channel: usize) -> u64
-    requires { ⌜ (channel < channelCount) × ((p : ℕ) → p < mostIds → peeredAt (now state) channel p ≤ 1) ⌝ }
+// How many registrations the channel has.
+pub fn count(state: &State, channel: usize) -> u64
+    requires { ⌜ channel < channelCount ⌝ }
     ensures { λ r. ⌜ r ≡ peersBelow (now (state .entry)) channel mostIds ⌝ }
 {
     let mut n: u64 = 0;
@@ -103,14 +112,6 @@ fn count_marks(state: &State, channel: usize) -> u64
     n
 }
 
-// How many registrations the channel has, in a sound state.
-pub fn count(state: &State, channel: usize) -> u64
-    requires { ⌜ (channel < channelCount) × (peersSound (now state) (readyAt (now state) channel) channel ≡ true) ⌝ }
-    ensures { λ r. ⌜ r ≡ peersBelow (now (state .entry)) channel mostIds ⌝ }
-{
-    count_marks(state, channel)
-}
-
 // Changes.
 
 // A registration made.
@@ -118,9 +119,9 @@ pub fn set_peer(state: &mut State, channel: usize, p: usize, handle: u64, minor:
     requires { ⌜ (channel < channelCount) × (p < mostIds) ⌝ }
     ensures { λ _. ⌜ now (state .exit) ≡ withPeer (now (state .entry)) channel p handle minor ⌝ }
 {
-    state[FIRST_PEER_WORD + channel * PEER_WORDS + p] = 1;
-    state[FIRST_PEER_WORD + channel * PEER_WORDS + MOST_IDS + p] = handle;
-    state[FIRST_PEER_WORD + channel * PEER_WORDS + MOST_IDS + MOST_IDS + p] = minor;
+    state[FIRST_PEER_WORD + channel * PEER_WORDS] = marks_of(state, channel) | (1 << p);
+    state[FIRST_PEER_WORD + channel * PEER_WORDS + MARK_WORDS + p] = handle;
+    state[FIRST_PEER_WORD + channel * PEER_WORDS + MARK_WORDS + MOST_IDS + p] = minor;
 }
 
 // A registration ended.
@@ -128,7 +129,8 @@ pub fn end_peer(state: &mut State, channel: usize, p: usize)
     requires { ⌜ (channel < channelCount) × (p < mostIds) ⌝ }
     ensures { λ _. ⌜ now (state .exit) ≡ withoutPeer (now (state .entry)) channel p ⌝ }
 {
-    state[FIRST_PEER_WORD + channel * PEER_WORDS + p] = 0;
+    let marks = marks_of(state, channel);
+    state[FIRST_PEER_WORD + channel * PEER_WORDS] = marks ^ (marks & (1 << p));
 }
 
 // Soundness.
@@ -140,9 +142,6 @@ fn peer_sound(state: &State, ready: u64, channel: usize, p: usize) -> bool
 {
     if mark_of(state, channel, p) == 0 {
         return true;
-    }
-    if mark_of(state, channel, p) != 1 {
-        return false;
     }
     if ready != 1 {
         return false;
@@ -258,24 +257,17 @@ fn handles_apart(state: &State, channel: usize) -> bool
     registered_apart(state, channel)
 }
 
-// The channel has no mark: one look at each word, which is all that a channel without registrations costs. All of them are read: a loop without another way out
-// takes several words a turn.
+// A quick test: no bit is set, and the channel has no registration.
 fn none_marked(state: &State, channel: usize) -> bool
     requires { ⌜ channel < channelCount ⌝ }
-    ensures { λ r. ⌜ r ≡ every mostIds (λ p. eqb (peeredAt (now (state .entry)) channel p) 0) ⌝ }
+    ensures { λ r. ⌜ (r ≡ true → (p : ℕ) → peeredAt (now (state .entry)) channel p ≡ 0) ⌝ }
 {
-    let mut marks: u64 = 0;
-    let mut p: usize = 0;
-    while p < MOST_IDS {
-        marks = marks | mark_of(state, channel, p);
-        p += 1;
-    }
-    marks == 0
+    marks_of(state, channel) == 0
 }
 
-// No channel has a mark. All words are read here too, so that a state without registrations costs no more.
+// A quick test: no bit is set, and no channel has a registration. All words are read, so that a state without registrations costs no branch a channel.
 pub fn none_registered(state: &State) -> bool
-    ensures { λ r. ⌜ r ≡ every channelCount (λ c. every mostIds (λ p. eqb (peeredAt (now (state .entry)) c p) 0)) ⌝ }
+    ensures { λ r. ⌜ (r ≡ true → (c : ℕ) → c < channelCount → (p : ℕ) → peeredAt (now (state .entry)) c p ≡ 0) ⌝ }
 {
     let mut none = true;
     let mut c: usize = 0;
@@ -301,5 +293,5 @@ pub fn peers_sound(state: &State, channel: usize) -> bool
     if !handles_apart(state, channel) {
         return false;
     }
-    count_marks(state, channel) <= MOST_PEERS
+    count(state, channel) <= MOST_PEERS
 }

@@ -70,7 +70,7 @@ fn told_major(own: u64, asked: u64) -> u16
 
 // "A handle with the top bit, a handle .. of a peer registration on its channel, or a ninth one": what makes it a duplicate, whatever its id.
 fn is_refused(state: &State, channel: usize, handle: u64) -> bool
-    requires { ⌜ (sound (now state) ≡ true) × (channel < channelCount) ⌝ }
+    requires { ⌜ channel < channelCount ⌝ }
     ensures { λ r. ⌜ r ≡ (leb topBit handle or isFound (peerFor (now (state .entry)) channel handle) or leb mostPeers (peersBelow (now (state .entry)) channel mostIds)) ⌝ }
 {
     if TOP_BIT <= handle {

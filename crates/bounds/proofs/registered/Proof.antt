@@ -5,10 +5,10 @@ use Rattle.bounds.proofs.registered.Statement.{statement}
 use Rattle.bounds.proofs.registered.Tie as tie
 
 abbrev Inv-loop : tie.InvT-loop
-Inv-loop count state₀ p₀ state p = p ≤ mostIds
+Inv-loop marks state₀ p₀ state p = p ≤ mostIds
 
 abbrev μ-loop : tie.MeasureT-loop
-μ-loop count state₀ p₀ state p = mostIds - p
+μ-loop marks state₀ p₀ state p = mostIds - p
 
 sound-state-requires : tie.Need-sound-state-requires Inv-loop μ-loop
 sound-state-requires c κs = search needs
@@ -16,14 +16,14 @@ sound-state-requires c κs = search needs
 array-write-state : tie.Need-array-write-state Inv-loop μ-loop
 array-write-state c = search needs
 
+array-write-state-2 : tie.Need-array-write-state-2 Inv-loop μ-loop
+array-write-state-2 c = search needs
+
 loop-holds : tie.Need-loop-holds Inv-loop μ-loop
 loop-holds c = search needs
 
 put-id-requires : tie.Need-put-id-requires Inv-loop μ-loop
 put-id-requires c κs = search needs
-
-put-id-requires-2 : tie.Need-put-id-requires-2 Inv-loop μ-loop
-put-id-requires-2 c κs = search needs
 
 add-p : tie.Need-add-p Inv-loop μ-loop
 add-p c = search needs
@@ -45,9 +45,9 @@ registered-spec =
     μ-loop
     sound-state-requires
     array-write-state
+    array-write-state-2
     loop-holds
     put-id-requires
-    put-id-requires-2
     add-p
     loop-less
     loop-again

@@ -1,15 +1,52 @@
--- `peers::count` meets its contract: a sound mark is 0 or 1.
+-- `peers::count` meets its contract: the marks passed are counted, one at most for each.
 -- Assumes nothing.
-use Rattle.peers.proofs.Laws.{each-part, marks}
-use borrow.Author.Needs.{needs}
+use Prim.Native.Nat.{ℕ}
+use native.Mathlib.Omega.{arith}
+use mathlib.Core.Path.{_≡_, sym, ap, _∙_}
+use Prim.Native.Nat.{_≤_, _-_}
+use native.Mathlib.Nat.{le-antisymm}
+use Rattle.model.specs.Layout.{marksAt, mostIds}
+use Rattle.model.specs.Peers.{peersBelow}
+use Rattle.model.proofs.Marks.{bit-few}
+use Rattle.peers.proofs.Laws.{none-counted, one-counted}
 use Rattle.peers.proofs.count.Statement.{statement}
 use Rattle.peers.proofs.count.Tie as tie
 
-count-marks-requires : tie.Need-count-marks-requires
-count-marks-requires c κs = (c .pre .0, marks _ _ _ (each-part _ _ _ (c .pre .1)))
+abbrev Inv-loop : tie.InvT-loop
+Inv-loop state channel n₀ p₀ n p = (p ≤ mostIds) × (n ≤ p) × (n ≡ peersBelow state channel p)
 
-returns : tie.Need-returns
-returns c = search needs
+abbrev μ-loop : tie.MeasureT-loop
+μ-loop state channel n₀ p₀ n p = mostIds - p
+
+loop-holds : tie.Need-loop-holds Inv-loop μ-loop
+loop-holds c = (omega arith, omega arith, sym (none-counted _ _))
+
+mark-of-requires : tie.Need-mark-of-requires Inv-loop μ-loop
+mark-of-requires c κs = (omega arith, omega arith)
+
+add-n : tie.Need-add-n Inv-loop μ-loop
+add-n c =
+    let a = c .before .before .before .args in
+    omega (arith, c .mark-of .ensures, bit-few (marksAt (a .state .now) (a .channel)) (c .before .before .loop .p))
+
+add-p : tie.Need-add-p Inv-loop μ-loop
+add-p c = omega arith
+
+loop-less : tie.Need-loop-less Inv-loop μ-loop
+loop-less c = omega arith
+
+loop-again : tie.Need-loop-again Inv-loop μ-loop
+loop-again c =
+    let l = c .before .before .loop in
+    let a = c .before .before .before .args in
+    (omega arith, omega (arith, c .mark-of .ensures, bit-few (marksAt (a .state .now) (a .channel)) (l .p)), rw (l .inv .2, c .mark-of .ensures) (sym (one-counted _ _ _)))
+
+returns : tie.Need-returns Inv-loop μ-loop
+returns c =
+    let a = c .before .before .args in
+    c .before .loop .inv .2 ∙ ap (λ (k : ℕ). peersBelow (a .state .now) (a .channel) k) (le-antisymm (c .before .loop .inv .0) (c .loop-test .left))
 
 pub count-spec : {M : Type 1} → statement M
-count-spec = tie.close (tie.spec count-marks-requires returns)
+count-spec =
+    tie.close
+    (tie.spec Inv-loop μ-loop loop-holds mark-of-requires add-n add-p loop-less loop-again returns)

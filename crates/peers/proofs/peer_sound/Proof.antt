@@ -20,31 +20,25 @@ returns c = sym (unmarked _ _ _ _ (sym (c .before .mark-of .ensures) ∙ c .if1 
 marked : (c : tie.Else1) → peeredAt (c .before .before .args .state .now) (c .before .before .args .channel) (c .before .before .args .p) ≡ 0 → ⊥
 marked c e = c .if1 .left (c .before .mark-of .ensures ∙ e)
 
-mark-of-requires-2 : tie.Need-mark-of-requires-2
-mark-of-requires-2 c κs = search needs
-
 returns-2 : tie.Need-returns-2
-returns-2 c = refute _ (λ t. c .if2 .taken (c .before .mark-of2 .ensures ∙ registered _ _ _ _ (marked (c .before .before)) t .marked))
+returns-2 c = refute _ (λ t. let r = registered _ _ _ _ (marked (c .before)) t in omega (arith, r .isReady))
+
+element-copy-out-if3 : tie.Need-element-copy-out-if3
+element-copy-out-if3 c = search needs
 
 returns-3 : tie.Need-returns-3
-returns-3 c = refute _ (λ t. let r = registered _ _ _ _ (marked (c .before .before .before)) t in omega (arith, r .isReady))
-
-element-copy-out-if4 : tie.Need-element-copy-out-if4
-element-copy-out-if4 c = search needs
-
-returns-4 : tie.Need-returns-4
-returns-4 c = refute _ (λ t. let r = registered _ _ _ _ (marked (c .before .before .before .before .before)) t in omega (arith, r .listed))
+returns-3 c = refute _ (λ t. let r = registered _ _ _ _ (marked (c .before .before .before)) t in omega (arith, r .listed))
 
 handle-of-requires : tie.Need-handle-of-requires
 handle-of-requires c κs = search needs
 
-returns-5 : tie.Need-returns-5
-returns-5 c = refute _ (λ t. let r = registered _ _ _ _ (marked (c .before .before .before .before .before .before .before)) t in omega (arith, r .handle, c .before .handle-of .ensures))
+returns-4 : tie.Need-returns-4
+returns-4 c = refute _ (λ t. let r = registered _ _ _ _ (marked (c .before .before .before .before .before)) t in omega (arith, r .handle, c .before .handle-of .ensures))
 
 -- past the tests of a registration
-all : (c : tie.Else5) → Registered (c .before .before .before .before .before .before .before .before .before .args .state .now) (c .before .before .before .before .before .before .before .before .before .args .ready) (c .before .before .before .before .before .before .before .before .before .args .channel) (c .before .before .before .before .before .before .before .before .before .args .p)
+all : (c : tie.Else4) → Registered (c .before .before .before .before .before .before .before .args .state .now) (c .before .before .before .before .before .before .before .args .ready) (c .before .before .before .before .before .before .before .args .channel) (c .before .before .before .before .before .before .before .args .p)
 all c = record {
-  marked = sym (c .before .before .before .before .before .before .mark-of2 .ensures) ∙ c .before .before .before .before .before .if2 .left;
+  marked = marked (c .before .before .before .before .before);
   isReady = omega arith;
   listed = omega arith;
   handle = omega (arith, c .before .handle-of .ensures);
@@ -68,9 +62,9 @@ mul-result-2 c = search needs
 element-copy-out-result : tie.Need-element-copy-out-result
 element-copy-out-result c = search needs
 
-returns-6 : tie.Need-returns-6
+returns-5 : tie.Need-returns-5
 unfolding idIn
-returns-6 c = rw (c .before .minor-of .ensures) (sym (minor-left _ _ _ _ (all (c .before .before))))
+returns-5 c = rw (c .before .minor-of .ensures) (sym (minor-left _ _ _ _ (all (c .before .before))))
 
 pub peer-sound-spec : {M : Type 1} → statement M
 peer-sound-spec =
@@ -78,17 +72,15 @@ peer-sound-spec =
     (tie.spec
     mark-of-requires
     returns
-    mark-of-requires-2
     returns-2
+    element-copy-out-if3
     returns-3
-    element-copy-out-if4
-    returns-4
     handle-of-requires
-    returns-5
+    returns-4
     minor-of-requires
     mul-result
     add-result
     add-result-2
     mul-result-2
     element-copy-out-result
-    returns-6)
+    returns-5)

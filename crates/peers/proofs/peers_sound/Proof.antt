@@ -1,14 +1,14 @@
 -- `peers::peers_sound` meets its contract: each early answer breaks a rule, and past them the count decides.
 -- Assumes nothing.
-use native.Mathlib.Omega.{arith}
 use mathlib.Core.Bool.{true}
-use mathlib.Core.Path.{_≡_, sym, _∙_}
+use mathlib.Core.Path.{_≡_, sym}
 use Rattle.model.specs.Choice.{every}
 use Rattle.model.specs.Layout.{mostIds, readyAt}
 use Rattle.model.specs.Peers.{peerSound}
 use Rattle.model.proofs.Choice.{clash}
 use Rattle.model.proofs.Loops.{refute, no, yes}
-use Rattle.peers.proofs.Laws.{none-sound, each-part, apart-part, count-left, marks}
+use Rattle.model.proofs.Peers.{unmarked-sound}
+use Rattle.peers.proofs.Laws.{each-part, apart-part, count-left}
 use borrow.Author.Needs.{needs}
 use Rattle.peers.proofs.peers_sound.Statement.{statement}
 use Rattle.peers.proofs.peers_sound.Tie as tie
@@ -17,7 +17,7 @@ none-marked-requires : tie.Need-none-marked-requires
 none-marked-requires c κs = search needs
 
 returns : tie.Need-returns
-returns c = sym (none-sound _ _ _ (sym (c .before .none-marked .ensures) ∙ c .if1 .taken))
+returns c = sym (unmarked-sound _ _ _ (λ p _. c .before .none-marked .ensures (c .if1 .taken) p))
 
 each-sound-requires : tie.Need-each-sound-requires
 each-sound-requires c κs = search needs
@@ -35,12 +35,12 @@ handles-apart-requires c κs = search needs
 returns-3 : tie.Need-returns-3
 returns-3 c = refute _ (λ t. clash _ (no _ (c .before .handles-apart .ensures) (c .if3 .taken)) (apart-part _ _ _ t))
 
-count-marks-requires : tie.Need-count-marks-requires
-count-marks-requires c κs = (omega arith, marks _ _ _ (each (c .before .before)))
+count-requires : tie.Need-count-requires
+count-requires c κs = search needs
 
 returns-4 : tie.Need-returns-4
 returns-4 c =
-    rw (c .count-marks .ensures)
+    rw (c .count .ensures)
     (sym (count-left _ _ _ (each (c .before .before .before)) (yes _ (c .before .before .handles-apart .ensures) (c .before .if3 .left))))
 
 pub peers-sound-spec : {M : Type 1} → statement M
@@ -53,5 +53,5 @@ peers-sound-spec =
     returns-2
     handles-apart-requires
     returns-3
-    count-marks-requires
+    count-requires
     returns-4)

@@ -6,7 +6,6 @@ use native.Mathlib.Omega.{arith}
 use lib.Dec.{leb}
 use Rattle.model.specs.Layout.{mostPeers}
 use Rattle.model.specs.Peers.{topBit}
-use Rattle.model.proofs.Rules.{sound-facts}
 use Rattle.registration.proofs.Laws.{by-bit, by-handle, by-count}
 use Rattle.registration.proofs.is_refused.Statement.{statement}
 use Rattle.registration.proofs.is_refused.Tie as tie
@@ -28,9 +27,7 @@ returns-2 c =
     sym (by-handle (a .state .now) (a .channel) (a .handle) (low e1) (sym (c .before .has-handle .ensures) ∙ c .if2 .taken))
 
 count-requires : tie.Need-count-requires
-count-requires c κs =
-    let s = c .before .before .before in
-    (s .pre .1, sound-facts _ (s .pre .0) .peers _ (s .pre .1))
+count-requires c κs = omega arith
 
 returns-3 : tie.Need-returns-3
 returns-3 c =
