@@ -6,7 +6,7 @@ use borrow.Fn.Kinds.{Dens, endedOf}
 use denote.Triple.Clauses.{AtExit}
 use denote.Ref.{now}
 use Prim.Native.Nat.{ℕ, _<_}
-use mathlib.Core.Path.{_≡_, refl}
+use mathlib.Core.Path.{_≡_, refl, ap, _∙_}
 use mathlib.Core.Bool.{true}
 use mathlib.Core.List.{List, [], _∷_}
 use Rattle.model.specs.declared.Started.{Started}
@@ -15,14 +15,18 @@ use Rattle.model.specs.Layout.{channelCount}
 use Rattle.model.specs.Contracts.{SetupPost}
 use Rattle.model.specs.Demand3.{Done}
 use Rattle.front_model.specs.declared.Piece.{Piece}
-use Rattle.front_model.specs.Front.{Front, keeps, partOf, partsOf, frontSound}
+use Rattle.front_model.specs.Front.{Front, dropping, keeps, partOf, partsOf, frontSound}
+use Rattle.front_model.specs.Calls.{Pieced, Reopened, Dropped, ReopenLeaves}
 use Rattle.front_model.specs.Contracts.{piecedBack}
-use Rattle.front_model.specs.Lists.{FrontDone, Standing, stands, FrontMeets, AllFrontMeet, FrontListHolds}
+use Rattle.front_model.specs.Lists.{FrontDone, Standing, stands, standsAfter, FrontMeets, AllFrontMeet, FrontListHolds}
 use Rattle.front_model.specs.Lists as lists
-use Rattle.front_model.specs.Cutting.{AllWhole, Cuts, drainsIn, givenIn, joined, SameOf}
+use Rattle.front_model.specs.Cutting.{AllWhole, Cuts, drainsIn, givenIn, joined, SameOf, PieceTakes, NotReopened, givenOn}
 use Rattle.front_model.proofs.Lists.{front-lists-hold}
 use Rattle.front_model.proofs.Cutting.{cutting-holds}
 use Rattle.front_model.proofs.Given as given
+use Rattle.front_model.proofs.Taken as taken
+use Rattle.front_model.proofs.Dropping as drops
+use Rattle.front_model.proofs.Reopening as reopens
 use Rattle.agent.proofs.Demand3.{Called, meets}
 use Rattle.front.proofs.piece.Kinds as piece-kinds
 use Rattle.front.proofs.piece.Reads as piece-reads
@@ -80,3 +84,23 @@ cuttings-hold c u stream ds es h f a b k q d = cutting-holds c u stream ds es h 
 -- messages laid end to end are the ones given
 pub messages-given : (c : ℕ) (u : Standing) (ms : List (List ℕ)) (ds : List FrontDone) → c < channelCount → partOf (u .front) c ≡ keeps [] → AllWhole ms → AllFrontCalled u ds → Cuts c (joined ms) ds → givenIn u ds ≡ ms
 messages-given c u ms ds h e w a k = given.messages-given c u ms ds h e w (all-front-meet a) k
+
+-- a piece takes all bytes, to the end of one message at most
+pub taken-to-the-end : (u : Standing) (c : ℕ) (b out : List ℕ) (r : Pieced) (f : Front) → FrontCalled u (lists.piecing c b out r f) → PieceTakes (u .front) c b r
+unfolding FrontMeets
+taken-to-the-end u c b out r f p = rw (front-meets p .0) (taken.taken-to-the-end (u .front) (u .state) (u .journal) c b out)
+
+-- further bytes are taken and dropped, by one call and by any until the host reopens that channel's front
+pub dropping-stays : (u : Standing) (c : ℕ) (b out : List ℕ) (r : Pieced) (f : Front) → partOf (u .front) c ≡ dropping → FrontCalled u (lists.piecing c b out r f) → Dropped (u .front) (u .state) (u .journal) c b out r
+unfolding FrontMeets
+dropping-stays u c b out r f d p = rw (front-meets p .0) (drops.dropping-stays (u .front) (u .state) (u .journal) c b out d)
+
+pub dropped-until-reopened : (c : ℕ) (u : Standing) (ds : List FrontDone) → c < channelCount → partOf (u .front) c ≡ dropping → AllFrontCalled u ds → NotReopened c ds → (givenOn c u ds ≡ []) × (partOf (standsAfter u ds .front) c ≡ dropping)
+dropped-until-reopened c u ds h d a n = drops.dropped-until-reopened c u ds h d (all-front-meet a) n
+
+-- which leaves it empty
+pub reopening-empties : (u : Standing) (c : ℕ) (r : Reopened) (f : Front) → FrontCalled u (lists.reopening c r f) → ReopenLeaves (u .front) f (u .state) c (r .refusal)
+unfolding FrontMeets
+reopening-empties u c r f p =
+    let q = front-meets p in
+    rw (q .0) (reopens.reopening-empties (u .front) f (u .state) c (q .1 ∙ ap (λ (x : Reopened). x .parts) (q .0)))

@@ -5,24 +5,25 @@ use native.Mathlib.Omega.{arith}
 use mathlib.Core.Path.{_≡_, refl, sym, ap, _∙_, subst}
 use mathlib.Core.Bool.{Bool, true, false}
 use mathlib.Core.List.{List, [], _∷_, _++_}
-use lib.ListN.{length, take, drop, getD, set, take-append-drop, length-drop, length-append}
-use lib.Seq.{take-append-seam, getD-set-same}
+use lib.ListN.{length, take, drop, set, take-append-drop, length-drop, length-append}
+use lib.Seq.{take-append-seam}
 use lib.Dec.{eqb}
 use Rattle.wire.specs.BigEndian.{written}
-use Rattle.model.specs.Choice.{pick, every, tabulate, _and_}
-use Rattle.model.specs.Layout.{channelCount, entryWords, lastOf, heldOf, withCounts, isSet}
+use Rattle.model.specs.Choice.{pick}
+use Rattle.model.specs.Layout.{channelCount, entryWords, lastOf, heldOf, withCounts}
 use Rattle.model.specs.Journal.{Entry, entriesAt}
 use Rattle.model.specs.Refusals.{drainRefusal}
 use Rattle.model.specs.Calls.{Call, act, drain, receive, Outcome, outcome, accepted, drained, refused, effectOf}
 use Rattle.model.specs.Demand3.{Done, drainedBy}
-use Rattle.model.proofs.Choice.{tabulate-at, tabulate-length, both, every-at, on-pick, pick-true, pick-false}
+use Rattle.model.proofs.Choice.{pick-true, pick-false}
 use Rattle.model.proofs.Lists.{meets-outcome}
 use Rattle.model.proofs.Ring.{entries-in}
-use Rattle.front_model.specs.Front.{Front, Part, dropping, keeps, bytesAt, droppingAt, partOf, partsOf, unfinished, frontSoundAt, frontSound}
+use Rattle.front_model.specs.Front.{Front, Part, partOf, partsOf}
 use Rattle.front_model.specs.Calls.{all, gives, taking, Pieced, pieceRefused, pieceKept, pieceGiven}
 use Rattle.front_model.specs.Lists.{FrontDone, piecing, reopening, calling, Standing, stands, standsAfter, FrontKept, FrontMeets, AllFrontMeet}
 use Rattle.front_model.specs.Cutting.{isDrain, Cuts, repliesIn, drainedIn, heldIn, DrainAt, runRoom, drainsIn, messageIn, givenIn, CuttingHolds}
 use Rattle.front_model.proofs.Taking.{PartSound}
+use Rattle.front_model.proofs.Parts.{sound-part, part-after}
 use Rattle.front_model.proofs.Pieces.{Way, refuses, keeping, giving, refusing, way}
 use Rattle.front_model.proofs.Streams.{Stream, before, ending, streamOf, stream-none, stream-kept, stream-given, kept-sound, given-sound, given-count}
 
@@ -98,25 +99,6 @@ turns-known n (room k ∷ ts) (room x ∷ vs) e f =
     let y : _≡_ {A = DrainAt} (record { messages = n; room = k }) (record { messages = n; room = x }) = cc in
     let z : roomsIn n ts ≡ roomsIn n vs = cc in
     rw (ap (λ (d : DrainAt). d .room) y) (ap (λ (l : List Turn). room x ∷ l) (turns-known n ts vs e z))
-
--- What the front has for the channel.
-unfinished-at : (f : Front) (c : ℕ) → frontSoundAt f c ≡ true → unfinished (bytesAt f c) ≡ true
-unfolding frontSoundAt
-unfinished-at f c g = both _ _ (both _ _ (both _ _ g .1) .1) .1
-
-pub sound-part : (f : Front) (c : ℕ) → frontSound f ≡ true → c < channelCount → PartSound (partOf f c)
-unfolding frontSound partOf PartSound
-sound-part f c e h =
-    on-pick PartSound (isSet (droppingAt f c)) dropping (keeps (bytesAt f c))
-    (λ z. tt)
-    (λ z. unfinished-at f c (every-at (λ k. frontSoundAt f k) channelCount c e h))
-
-part-after : (f f′ : Front) (c : ℕ) (q : Part) → c < channelCount → partsOf f′ ≡ set (partsOf f) c q → partOf f′ c ≡ q
-unfolding partsOf
-part-after f f′ c q h e =
-    sym (tabulate-at (partOf f′) channelCount c dropping h)
-    ∙ ap (λ (l : List Part). getD l c dropping) e
-    ∙ getD-set-same (tabulate (partOf f) channelCount) c q dropping (omega (arith, tabulate-length (partOf f) channelCount))
 
 -- What a piece comes to, as the host sees it.
 data Seen (f : Front) (s j : List ℕ) (c : ℕ) (b : List ℕ) (r : Pieced) : Type 0 where

@@ -1,4 +1,4 @@
--- Messages laid end to end are given as they are, however they are cut; and a front of words 0 is sound.
+-- Messages laid end to end are given as they are, however they are cut; and a front of words 0 is sound and empty.
 -- Assumes nothing.
 use Prim.Native.Nat.{ℕ, zero, suc, _+_, _-_, _<_}
 use native.Mathlib.Omega.{arith}
@@ -6,8 +6,8 @@ use mathlib.Core.Path.{_≡_, refl, sym, ap, _∙_}
 use mathlib.Core.List.{List, [], _∷_}
 use lib.ListN.{length, drop, length-append}
 use lib.Seq.{drop-append-seam}
-use Rattle.model.specs.Choice.{every, _and_, _or_}
-use Rattle.front_model.specs.Front.{Part, keeps, partOf, unfinished, frontSoundAt, frontSound, EmptySound}
+use Rattle.model.specs.Choice.{pick, every, tabulate, _and_, _or_}
+use Rattle.front_model.specs.Front.{Part, keeps, partOf, partsOf, unfinished, frontSoundAt, frontSound, EmptySound}
 use Rattle.front_model.specs.Calls.{taking}
 use Rattle.front_model.specs.Cutting.{AllWhole, joined, MessagesGiven, LongGiven}
 use Rattle.front_model.proofs.Taking.{PartSound, unfinished-short, whole-given, long-given}
@@ -40,5 +40,5 @@ unfolding taking
 long-one-given m rest e l = long-given m rest e l
 
 pub empty-sound : EmptySound
-unfolding frontSound frontSoundAt every unfinished _and_ _or_
-empty-sound b = refl
+empty-sound b =
+    record { sounds = unfold frontSound frontSoundAt every unfinished _and_ _or_ in refl; parts = unfold partsOf partOf tabulate pick in refl }

@@ -15,7 +15,7 @@ use Rattle.front_model.specs.Calls.{pieceRefusal, Pieced, pieceKept, pie
 use Rattle.front_model.specs.Cutting.{Asked, PiecesTaken}
 use Rattle.front_model.proofs.Pieces.{Way, refuses, keeping, giving, refusing, way}
 use Rattle.front_model.proofs.Streams.{given-count}
-use Rattle.front_model.proofs.Cutting.{sound-part}
+use Rattle.front_model.proofs.Parts.{sound-part}
 
 module _ (f : Front) (s j : List ℕ) (c : ℕ) (out : List ℕ) (a : Asked f s j c out) where
   none-tested : pieceRefusal f s (length j) (length out) c ≡ 0

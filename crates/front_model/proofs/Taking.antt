@@ -5,8 +5,8 @@ use native.Mathlib.Omega.{arith}
 use mathlib.Core.Path.{_≡_, refl, sym, ap, _∙_}
 use mathlib.Core.Bool.{Bool, true, false}
 use mathlib.Core.List.{List, [], _++_, append-assoc, append-nil}
-use lib.ListN.{length, take, length-append, List·getD-append}
-use lib.Seq.{take-append-le, take-length}
+use lib.ListN.{length, take, drop, length-append, take-append-drop, List·getD-append}
+use lib.Seq.{take-append-le, take-append-add, take-length, length-take-le}
 use lib.Dec.{leb, ltb}
 use Rattle.model.proofs.Choice.{join, both, or-true}
 use borrow.Author.Tests.{ltb-true, ltb-false, leb-true, lt-ltb, le-ltb, le-leb}
@@ -16,6 +16,7 @@ use Rattle.model.specs.Layout.{dsHeaderBytes}
 use Rattle.model.specs.Messages.{mostPayload, payloadLength}
 use Rattle.front_model.specs.Front.{Part, dropping, keeps, unfinished}
 use Rattle.front_model.specs.Calls.{Taking, all, gives, takingOf, takingAfter}
+use Rattle.front_model.specs.Cutting.{ToItsEnd, isWhole, isLong}
 
 number-before : (a l : List ℕ) (at n : ℕ) → at + n ≤ length a → numberAt (a ++ l) at n ≡ numberAt a at n
 unfolding numberAt byteAt
@@ -163,6 +164,61 @@ gives-count p b m i q u e = go (ways (p ++ b) (length p)) (beginning p b u)
         let z : dsHeaderBytes + payloadLength (p ++ b) - length p ≡ i = cc in
         let t = length-append p b in
         (omega arith, omega arith)
+
+-- the message is what was kept and what is taken behind it, to its end
+module _ (p b : List ℕ) (n : ℕ) (h : length p ≤ n) (l : n ≤ length (p ++ b)) where
+  joined-bytes : take n (p ++ b) ≡ p ++ take (n - length p) b
+  joined-bytes =
+      let t : n ≡ length p + (n - length p) = omega arith in
+      ap (λ (k : ℕ). take k (p ++ b)) t ∙ take-append-add p b (n - length p)
+
+  joined-count : length (take n (p ++ b)) ≡ length p + (n - length p)
+  joined-count = length-take-le n (p ++ b) l ∙ omega arith
+
+  joined-length : dsHeaderBytes ≤ n → payloadLength (take n (p ++ b)) ≡ payloadLength (p ++ b)
+  joined-length k =
+      sym (length-within (take n (p ++ b)) (drop n (p ++ b)) (omega (arith, length-take-le n (p ++ b) l)))
+      ∙ ap payloadLength (take-append-drop n (p ++ b))
+
+pub gives-end : (p b : List ℕ) (m : List ℕ) (i : ℕ) (q : Part) → unfinished p ≡ true → takingAfter p b ≡ gives m i q → ToItsEnd p b i m
+gives-end p b m i q u e = go (ways (p ++ b) (length p)) (beginning p b u)
+  where
+    long-end : length p ≤ dsHeaderBytes → dsHeaderBytes ≤ length (p ++ b) → mostPayload < payloadLength (p ++ b) → ToItsEnd p b (dsHeaderBytes - length p) (take dsHeaderBytes (p ++ b))
+    long-end n h l =
+        let t = joined-length p b dsHeaderBytes n h (omega arith) in
+        record {
+          bytes = joined-bytes p b dsHeaderBytes n h;
+          count = joined-count p b dsHeaderBytes n h;
+          one = isLong (length-take-le dsHeaderBytes (p ++ b) h) (omega arith);
+        }
+
+    whole-end : length p ≤ dsHeaderBytes + payloadLength (p ++ b) → payloadLength (p ++ b) ≤ mostPayload → dsHeaderBytes + payloadLength (p ++ b) ≤ length (p ++ b) → ToItsEnd p b (dsHeaderBytes + payloadLength (p ++ b) - length p) (take (dsHeaderBytes + payloadLength (p ++ b)) (p ++ b))
+    whole-end n l h =
+        let t = joined-length p b (dsHeaderBytes + payloadLength (p ++ b)) n h (omega arith) in
+        record {
+          bytes = joined-bytes p b (dsHeaderBytes + payloadLength (p ++ b)) n h;
+          count = joined-count p b (dsHeaderBytes + payloadLength (p ++ b)) n h;
+          one = isWhole (record { long = length-take-le (dsHeaderBytes + payloadLength (p ++ b)) (p ++ b) h ∙ omega arith; bounded = omega arith });
+        }
+
+    go : Ways (p ++ b) (length p) → Beginning p b → ToItsEnd p b i m
+    go (short h f) x = let y : all (keeps (p ++ b)) ≡ gives m i q = sym f ∙ e in absurd (let z : _≡_ {A = ℕ} 0 1 = cc in omega arith)
+    go (partial h l k f) x = let y : all (keeps (p ++ b)) ≡ gives m i q = sym f ∙ e in absurd (let z : _≡_ {A = ℕ} 0 1 = cc in omega arith)
+    go (long h l f) (few n) =
+        let y : gives (take dsHeaderBytes (p ++ b)) (dsHeaderBytes - length p) dropping ≡ gives m i q = sym f ∙ e in
+        let z : dsHeaderBytes - length p ≡ i = cc in
+        let t : take dsHeaderBytes (p ++ b) ≡ m = cc in
+        rw (← z, ← t) (long-end (omega arith) h l)
+    go (long h l f) (more n k) = absurd (omega arith)
+    go (whole l k f) x =
+        let y : gives (take (dsHeaderBytes + payloadLength (p ++ b)) (p ++ b)) (dsHeaderBytes + payloadLength (p ++ b) - length p) (keeps []) ≡ gives m i q = sym f ∙ e in
+        let z : dsHeaderBytes + payloadLength (p ++ b) - length p ≡ i = cc in
+        let t : take (dsHeaderBytes + payloadLength (p ++ b)) (p ++ b) ≡ m = cc in
+        rw (← z, ← t) (whole-end (within x) l k)
+      where
+        within : Beginning p b → length p ≤ dsHeaderBytes + payloadLength (p ++ b)
+        within (few n) = omega arith
+        within (more n n′) = omega arith
 
 -- the part that is left after a message is none, or is dropped
 pub gives-part : (p b : List ℕ) (m : List ℕ) (i : ℕ) (q : Part) → takingAfter p b ≡ gives m i q → PartSound q

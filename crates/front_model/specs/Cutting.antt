@@ -5,8 +5,9 @@ use Prim.Native.Nat.{ℕ, _+_, _-_, _/_, _≤_, _<_, min}
 use mathlib.Core.Path.{_≡_}
 use mathlib.Core.Bool.{Bool, true, false}
 use mathlib.Core.List.{List, [], _∷_, _++_}
-use lib.ListN.{length, take, drop}
-use Rattle.model.specs.Choice.{pick}
+use lib.ListN.{length, take, drop, getD}
+use lib.Dec.{eqb}
+use Rattle.model.specs.Choice.{pick, _and_}
 use Rattle.model.specs.Layout.{channelCount, dsHeaderBytes, entryWords, journalWords, outputBytes, mostHeld, highestNumber, lastOf, heldOf}
 use Rattle.model.specs.State.{sound}
 use Rattle.model.specs.Journal.{Entry, entriesAt}
@@ -14,7 +15,7 @@ use Rattle.model.specs.Calls.{Call, act, drain}
 use Rattle.model.specs.Demand3.{drainedBy}
 use Rattle.model.specs.Messages.{mostPayload, payloadLength}
 use Rattle.front_model.specs.Front.{Front, dropping, keeps, partOf, frontSound}
-use Rattle.front_model.specs.Calls.{Taking, all, gives, taking, pieced}
+use Rattle.front_model.specs.Calls.{Taking, all, gives, taking, Pieced, pieced}
 use Rattle.front_model.specs.Lists.{FrontDone, piecing, reopening, calling, Standing, stands, AllFrontMeet, standsAfter}
 
 -- A drain; "no other calls between".
@@ -140,3 +141,49 @@ PiecesTaken =
     (f : Front) (s j : List ℕ) (c : ℕ) (b out : List ℕ) →
     Asked f s j c out →
     (pieced f s j c b out .refusal ≡ 0) × (min 1 (length b) ≤ pieced f s j c b out .taken)
+
+-- "A call takes all bytes, to the end of one message at most, and says how many". One message: a whole one, or the eight bytes of one with a "payload_len above 4,096".
+pub data OneMessage (m : List ℕ) : Type 0 where
+  isWhole : Whole m → OneMessage m
+  isLong : length m ≡ dsHeaderBytes → mostPayload < payloadLength m → OneMessage m
+
+-- the message is the part that was kept and, behind it, the bytes that were taken, to its end
+pub record ToItsEnd (p b : List ℕ) (taken : ℕ) (m : List ℕ) : Type 0 where
+  pub bytes : m ≡ p ++ take taken b
+  pub count : length m ≡ length p + taken
+  pub one : OneMessage m
+
+-- An accepted piece that gives the agent no message has taken all its bytes; one that gives a message, those to that message's end. What the front has for other channels is as it was.
+pub record PieceTakes (f : Front) (c : ℕ) (b : List ℕ) (r : Pieced) : Type 0 where
+  pub within : r .taken ≤ length b
+  pub none : r .refusal ≡ 0 → r .given ≡ false → r .taken ≡ length b
+  pub message : r .given ≡ true → (p : List ℕ) → partOf f c ≡ keeps p → ToItsEnd p b (r .taken) (messageIn (taking (partOf f c) b))
+  pub others : (k : ℕ) → k < channelCount → (k ≡ c → ⊥) → getD (r .parts) k dropping ≡ partOf f k
+
+abbrev pub TakenToTheEnd : Type 0
+TakenToTheEnd = (f : Front) (s j : List ℕ) (c : ℕ) (b out : List ℕ) → PieceTakes f c b (pieced f s j c b out)
+
+-- "further bytes are taken and dropped until the host reopens that channel's front": whatever calls are made, where no accepted one reopens it.
+unfoldable pub NotReopened : ℕ → List FrontDone → Type 0
+NotReopened c [] = Unit {0}
+NotReopened c (piecing channel b out r f ∷ ds) = NotReopened c ds
+NotReopened c (reopening channel r f ∷ ds) = (channel ≡ c → r .refusal ≡ 0 → ⊥) × NotReopened c ds
+NotReopened c (calling d ∷ ds) = NotReopened c ds
+
+-- the messages that pieces on one channel gave
+unfoldable pub givenOn : ℕ → Standing → List FrontDone → List (List ℕ)
+givenOn c u [] = []
+givenOn c u (piecing channel b out r f ∷ ds) =
+    let rest = givenOn c (stands u (piecing channel b out r f)) ds in
+    pick (eqb channel c and r .given) (messageIn (taking (partOf (u .front) channel) b) ∷ rest) rest
+givenOn c u (reopening channel r f ∷ ds) = givenOn c (stands u (reopening channel r f)) ds
+givenOn c u (calling d ∷ ds) = givenOn c (stands u (calling d)) ds
+
+abbrev pub DroppedUntilReopened : Type 0
+DroppedUntilReopened =
+    (c : ℕ) (u : Standing) (ds : List FrontDone) →
+    c < channelCount →
+    partOf (u .front) c ≡ dropping →
+    AllFrontMeet u ds →
+    NotReopened c ds →
+    (givenOn c u ds ≡ []) × (partOf (standsAfter u ds .front) c ≡ dropping)

@@ -4,7 +4,7 @@
 use Prim.Native.Nat.{ℕ, _+_, _-_, _*_}
 use mathlib.Core.Path.{_≡_}
 use mathlib.Core.Bool.{Bool, true, not}
-use mathlib.Core.List.{List}
+use mathlib.Core.List.{List, []}
 use lib.ListN.{length, getD, take, drop, replicate}
 use lib.Dec.{eqb, leb, ltb}
 use Rattle.model.specs.Choice.{pick, _and_, _or_, every, tabulate}
@@ -70,6 +70,10 @@ frontSoundAt f c =
 unfoldable pub frontSound : Front → Bool
 frontSound f = every channelCount (λ c. frontSoundAt f c)
 
--- a front whose words are all 0 is sound, whatever its bytes: what a host begins with
+-- What a host begins with: a front whose words are all 0, whatever its bytes, is sound; it keeps no byte of any channel and drops none.
+pub record Empty (f : Front) : Type 0 where
+  pub sounds : frontSound f ≡ true
+  pub parts : partsOf f ≡ replicate channelCount (keeps [])
+
 abbrev pub EmptySound : Type 0
-EmptySound = (b : List ℕ) → frontSound (record { words = replicate frontWords 0; bytes = b }) ≡ true
+EmptySound = (b : List ℕ) → Empty (record { words = replicate frontWords 0; bytes = b })
