@@ -70,7 +70,7 @@ frontSoundAt f c =
 unfoldable pub frontSound : Front → Bool
 frontSound f = every channelCount (λ c. frontSoundAt f c)
 
--- What a host begins with: a front whose words are all 0, whatever its bytes, is sound; it keeps no byte of any channel and drops none.
+-- "keeps at most one unfinished message per channel": what a host begins with, a front whose words are all 0, whatever its bytes, is sound, keeps none and drops no bytes.
 pub record Empty (f : Front) : Type 0 where
   pub sounds : frontSound f ≡ true
   pub parts : partsOf f ≡ replicate channelCount (keeps [])
