@@ -1,11 +1,12 @@
 //! What saved files reached.
 
 use super::damage::Damage;
+use super::wordings::{wording, MARK, WORDINGS};
 use super::File;
 use crate::block::Blocks;
 use crate::entry::{CHANNEL, COUNT, EDITION, KIND, SERVICE};
 use crate::reader::fields::{named, KINDS};
-use crate::reader::{output, Edition, Reading, Verdict, ENTRY, WORD};
+use crate::reader::{Bad, Edition, Reading, Verdict, ENTRY, PIECE, WORD};
 use crate::state::{SERVICES, TOP_BIT};
 use crate::wire::get64;
 use std::collections::BTreeMap;
@@ -32,10 +33,11 @@ const GROWN: [&str; 3] = [
 const BARE: &str = "kind  9 of a registered handle but for its top bit";
 
 /// What only a new journal can say.
-const MORE: [&str; 6] = [
+const MORE: [&str; 7] = [
     "file of 17 to 63 blocks",
     "file of 64 blocks",
     "kind 11 of a block from 16 on",
+    "kind 11 of 64 blocks",
     "kind 12 of 17 to 64 records",
     "kind 15 of a block from 16 on",
     "kind 15 of a record from 16 on",
@@ -86,6 +88,16 @@ impl RemovalSteps {
     }
 }
 
+/// A file that no reader takes at once.
+const LONG: &str = "file longer than is read at once";
+
+/// The lines of entries that files of an edition must reach.
+fn line_names(edition: Edition) -> impl Iterator<Item = String> {
+    let mark = (edition == Edition::New).then_some(MARK);
+    let lines = WORDINGS.into_iter().chain(mark);
+    lines.map(move |line| format!("line {edition} {line}"))
+}
+
 /// Counts by name.
 pub struct Counts {
     listed: BTreeMap<String, u64>,
@@ -118,7 +130,9 @@ impl Default for Counts {
             let lines = SHOWN.iter();
             lines.map(move |line| format!("shown {edition} {line}"))
         });
-        let names = bad.chain(good).chain(shown);
+        let lines = Edition::ALL.into_iter().flat_map(line_names);
+        let names = bad.chain(good).chain(shown).chain(lines);
+        let names = names.chain([LONG.to_string()]);
         Counts {
             listed: names.map(|name| (name, 0)).collect(),
             files: 0,
@@ -131,9 +145,9 @@ impl Default for Counts {
 fn more(edition: Edition, first: u64, second: u64) -> Vec<&'static str> {
     let (record, block) = edition.settled(first, second);
     let tests = match KIND.of(first) {
-        11 => [(second >> 16 != 0, MORE[2]), (false, "")],
-        12 => [((17..=64).contains(&COUNT.of(first)), MORE[3]), (false, "")],
-        15 => [(block > 15, MORE[4]), (record > 15, MORE[5])],
+        11 => [(second >> 16 != 0, MORE[2]), (second == u64::MAX, MORE[3])],
+        12 => [((17..=64).contains(&COUNT.of(first)), MORE[4]), (false, "")],
+        15 => [(block > 15, MORE[5]), (record > 15, MORE[6])],
         _ => return Vec::new(),
     };
     let met = tests.iter().filter(|(met, _)| *met);
@@ -151,17 +165,25 @@ impl Counts {
         *self.listed.entry(name).or_default() += 1;
     }
 
-    /// Counts a file and what the reader says of it.
-    pub fn file(&mut self, file: &File, verdict: &Verdict) {
+    /// Counts a file, what the reader says of it, and the lines of its entries.
+    pub fn file(&mut self, file: &File, verdict: &Verdict, lines: &[u8]) {
         self.files += 1;
         self.damaged += u64::from(file.damaged);
-        let reading = match verdict {
-            Ok(reading) => reading,
-            Err(bad) => return self.add(format!("bad {}", Damage::of(bad))),
-        };
+        if file.bytes.len() > PIECE {
+            self.add(LONG.to_string());
+        }
+        self.lines(verdict, lines);
+        match verdict {
+            Ok(reading) => self.good(&file.bytes, reading),
+            Err(bad) => self.add(format!("bad {}", Damage::of(bad))),
+        }
+    }
+
+    /// Counts what a good file says and shows.
+    fn good(&mut self, file: &[u8], reading: &Reading) {
         let edition = reading.edition;
-        self.bare(&file.bytes, edition);
-        let entries = entries_of(&file.bytes);
+        self.bare(file, edition);
+        let entries = entries_of(file);
         self.add(format!("good {edition} file"));
         if entries.len() == 0 {
             self.add(format!("good {edition} file of no entries"));
@@ -186,11 +208,23 @@ impl Counts {
                 self.add(format!("good {edition} {name}"));
             }
         }
-        for line in String::from_utf8_lossy(&output(verdict)).lines() {
+        for line in String::from_utf8_lossy(&reading.lines()).lines() {
             let mut words = line.split(' ');
             if let (Some(what), Some(_), Some(how)) = (words.next(), words.next(), words.next()) {
                 self.add(format!("shown {edition} {what} {how}"));
             }
+        }
+    }
+
+    /// Counts the lines of a file's good entries.
+    fn lines(&mut self, verdict: &Verdict, lines: &[u8]) {
+        let edition = match verdict {
+            Ok(reading) => reading.edition,
+            Err(Bad::Entry { edition, .. }) => *edition,
+            Err(Bad::Blocks(_)) => return,
+        };
+        for line in String::from_utf8_lossy(lines).lines() {
+            self.add(format!("line {edition} {}", wording(line)));
         }
     }
 
@@ -237,8 +271,8 @@ impl Counts {
 impl Display for Counts {
     fn fmt(&self, text: &mut Formatter) -> fmt::Result {
         for (name, count) in &self.listed {
-            writeln!(text, "{name:60} {count:>10}")?;
+            writeln!(text, "{name:84} {count:>10}")?;
         }
-        writeln!(text, "{:60} {:>10}", "files damaged", self.damaged)
+        writeln!(text, "{:84} {:>10}", "files damaged", self.damaged)
     }
 }
