@@ -13,19 +13,19 @@ use std::process::{Command, Output, Stdio};
 /// Number and fields of entries, and their lines, which are the same in both
 /// editions.
 #[rustfmt::skip]
-const LINES: [(u64, Entry, &str); 48] = [
+const LINES: [(u64, Entry, &str); 52] = [
     (5, [1, 3, 0, 0, 0, 0, 0], "5 channel 3: ready"),
     (6, [2, 1, 0, 0, 0, 0, 0], "6 channel 1: closed by the host"),
     (7, [2, 1, 0, 0, 0, 0, 1], "7 channel 1: closed by a message"),
-    (8, [3, 2, 0, 0, 0, 4, 0], "8 channel 2: version refused, major 4 asked"),
+    (8, [3, 2, 0, 0, 0, 4, 0], "8 channel 2: version refused, major 4 asked, now closed"),
     (9, [4, 3, 1, 0, 0, 0, 0], "9 channel 3: service 1 offered"),
     (10, [5, 3, 1, 0, 0, 6, 77], "10 channel 3: service 1 registered, handle 77, minor 6"),
     (11, [6, 0, 3, 0, 0, 0, 0], "11 channel 0: offer of service 3 refused"),
     (12, [7, 0, 2, 0, 0, 0, 0], "12 channel 0: service 2 ended"),
     (13, [8, 1, 3, 0, 0, 0, 0], "13 channel 1: data for service 3 delivered to the host"),
     (14, [9, 1, 0, 0, 0, 0, 99], "14 channel 1: data refused, handle 99"),
-    (15, [10, 2, 1, 0, 3, 0, 44], "15 channel 2: device request 44 answered, result 3, no device named"),
-    (16, [10, 2, 1, 0, 1, 0, 45], "16 channel 2: device request 45 answered, result 1, no device named"),
+    (15, [10, 2, 1, 0, 3, 0, 44], "15 channel 2: device request 44 answered, result 3, nothing changed"),
+    (16, [10, 2, 1, 0, 1, 0, 45], "16 channel 2: device request 45 answered, result 1, nothing changed"),
     (17, [10, 2, 0, 0, 1, 0, 46], "17 channel 2: memory request 46 answered ERROR"),
     (18, [10, 2, 0, 0, 2, 0, 47], "18 channel 2: memory request 47 answered BLOCKED"),
     (19, [10, 2, 0, 0, 0, 0, 48], "19 channel 2: memory request 48 answered, nothing changed"),
@@ -50,13 +50,17 @@ const LINES: [(u64, Entry, &str); 48] = [
     (38, [16, 2, 0, 0, 2, 1, 9], "38 channel 2: removal ended, code 2, request 9, reply sent"),
     (39, [16, 2, 0, 0, 7, 0, 9], "39 channel 2: removal ended, code 7, request 9, no reply"),
     (40, [17, 0, 0, 0, 0, 0, 8], "40 channel 0: message of type 8 noted"),
-    (41, [18, 1, 0, 0, 2, 31, 1], "41 channel 1: device 31, result 2, now configured"),
-    (42, [18, 1, 0, 0, 0, 30, 0], "42 channel 1: device 30, result 0, now unconfigured"),
-    (43, [19, 0, 2, 0, 0, 0, 0], "43: requests to service 2 denied"),
-    (44, [19, 0, 3, 0, 1, 0, 0], "44: requests to service 3 permitted"),
+    (41, [18, 1, 0, 0, 2, 31, 1], "41 channel 1: device 31, result 2, is configured"),
+    (42, [18, 1, 0, 0, 0, 30, 0], "42 channel 1: device 30, result 0, is unconfigured"),
+    (43, [19, 0, 2, 0, 0, 0, 0], "43: requests to service 2 denied from now on"),
+    (44, [19, 0, 3, 0, 1, 0, 0], "44: requests to service 3 permitted from now on"),
     (45, [20, 0, 0, 0, 0, 0, 0], "45: order taken"),
-    (46, [21, 1, 2, 0, 0, 0, 3000], "46 channel 1: request to service 2 answered, result 0, delay 3000"),
-    (47, [21, 1, 3, 0, 1, 0, 0], "47 channel 1: request to service 3 answered, result 1, delay 0"),
+    (46, [21, 1, 2, 0, 0, 0, 3000], "46 channel 1: shutdown ordered, delay 3000 milliseconds"),
+    (46, [21, 1, 2, 0, 0, 0, 0], "46 channel 1: shutdown ordered, delay 0 milliseconds"),
+    (46, [21, 1, 2, 0, 0, 0, 1], "46 channel 1: shutdown ordered, delay 1 milliseconds"),
+    (47, [21, 1, 3, 0, 0, 0, 0], "47 channel 1: panic ordered"),
+    (47, [21, 1, 2, 0, 1, 0, 0], "47 channel 1: request to service 2 answered, result 1"),
+    (47, [21, 1, 3, 0, 2, 0, 0], "47 channel 1: request to service 3 answered, result 2"),
     (48, [22, 2, 0, 15, 0, 7, 66], "48 channel 2: peer registered id 15, handle 66, minor 7"),
     (49, [23, 2, 0, 0, 0, 0, 66], "49 channel 2: peer's registration ended, handle 66"),
     (50, [24, 2, 0, 0, 0, 0, 0], "50 channel 2: data for a peer's service delivered to the host"),
@@ -67,22 +71,38 @@ const LINES: [(u64, Entry, &str); 48] = [
 /// Entries that no agent writes but the reader takes for good: the other values
 /// of fields that choose the words.
 #[rustfmt::skip]
-const NOT_WRITTEN: [(u64, Entry, &str); 15] = [
+const NOT_WRITTEN: [(u64, Entry, &str); 31] = [
     (2, [2, 1, 0, 0, 0, 0, u64::MAX], "2 channel 1: closed by a message"),
-    (3, [10, 2, 2, 0, 1, 0, 46], "3 channel 2: memory request 46 answered ERROR"),
-    (4, [10, 2, 3, 0, 2, 0, 47], "4 channel 2: memory request 47 answered BLOCKED"),
-    (5, [10, 2, 0, 0, 3, 0, 48], "5 channel 2: memory request 48 answered, nothing changed"),
-    (6, [10, 2, 1, 0, 7, 0, 49], "6 channel 2: device request 49 answered, result 7, no device named"),
+    (3, [10, 2, 2, 0, 0, 0, 45], "3 channel 2: request 45 to service 2 answered, code 0"),
+    (3, [10, 2, 2, 0, 1, 0, 46], "3 channel 2: request 46 to service 2 answered, code 1"),
+    (4, [10, 2, 3, 0, 2, 0, 47], "4 channel 2: request 47 to service 3 answered, code 2"),
+    (4, [10, 2, 3, 0, 7, 0, 47], "4 channel 2: request 47 to service 3 answered, code 7"),
+    (5, [10, 2, 0, 0, 3, 0, 48], "5 channel 2: request 48 to service 0 answered, code 3"),
+    (5, [10, 2, 0, 0, 7, 0, 48], "5 channel 2: request 48 to service 0 answered, code 7"),
+    (6, [10, 2, 1, 0, 0, 0, 49], "6 channel 2: device request 49 answered, result 0, nothing changed"),
+    (6, [10, 2, 1, 0, 7, 0, 49], "6 channel 2: device request 49 answered, result 7, nothing changed"),
     (7, [11, 2, 0, 0, 0, 0, 0], "7 channel 2: blocks configured:"),
     (8, [12, 3, 0, 0, 0, 0, 9], "8 channel 3: removal begun, 0 records, request 9"),
     (9, [14, 1, 0, 0, 0, 0, 0], "9 channel 1: 0 pages collected"),
     (10, [15, 1, 0, 0, 0, 0, 2], "10 channel 1: record 0 settled, block 2 now unconfigured, last 0 pages moved"),
-    (11, [15, 1, 0, 0, 1, 3, 2], "11 channel 1: record 0 settled, block 2 was unconfigured before"),
+    (11, [15, 1, 0, 0, 4, 3, 2], "11 channel 1: record 0 settled, block 2 was unconfigured before"),
+    (11, [15, 1, 0, 0, 1, 3, 2], "11 channel 1: record 0 settled, block 2 left as it was, code 1"),
+    (11, [15, 1, 0, 0, 3, 0, 2], "11 channel 1: record 0 settled, block 2 left as it was, code 3"),
+    (11, [15, 1, 0, 0, 5, 1, 2], "11 channel 1: record 0 settled, block 2 left as it was, code 5"),
+    (11, [15, 1, 0, 0, 7, 0, 2], "11 channel 1: record 0 settled, block 2 left as it was, code 7"),
     (12, [16, 2, 0, 0, 4, 2, 9], "12 channel 2: removal ended, code 4, request 9, no reply"),
     (13, [16, 2, 0, 0, 6, 65535, 9], "13 channel 2: removal ended, code 6, request 9, no reply"),
-    (14, [18, 1, 0, 0, 0, 30, 2], "14 channel 1: device 30, result 0, now configured"),
-    (15, [19, 0, 0, 0, 7, 0, 0], "15: requests to service 0 permitted"),
-    (16, [21, 1, 0, 0, 4, 0, 5], "16 channel 1: request to service 0 answered, result 4, delay 5"),
+    (14, [18, 1, 0, 0, 0, 30, 2], "14 channel 1: device 30, result 0, is configured"),
+    (14, [18, 1, 0, 0, 7, 30, 0], "14 channel 1: device 30, result 7, is unconfigured"),
+    (15, [19, 0, 0, 0, 1, 0, 0], "15: requests to service 0 permitted from now on"),
+    (15, [19, 0, 1, 0, 0, 0, 0], "15: requests to service 1 denied from now on"),
+    (15, [19, 0, 2, 0, 2, 0, 0], "15: requests to service 2 denied from now on"),
+    (15, [19, 0, 0, 0, 7, 0, 0], "15: requests to service 0 denied from now on"),
+    (16, [21, 1, 0, 0, 0, 0, 5], "16 channel 1: panic ordered"),
+    (16, [21, 1, 1, 0, 0, 0, 5], "16 channel 1: panic ordered"),
+    (16, [21, 1, 3, 0, 0, 0, 5], "16 channel 1: panic ordered"),
+    (16, [21, 1, 0, 0, 4, 0, 5], "16 channel 1: request to service 0 answered, result 4"),
+    (16, [21, 1, 2, 0, 7, 0, 5], "16 channel 1: request to service 2 answered, result 7"),
 ];
 
 fn line(edition: Edition, number: u64, entry: Entry) -> String {
@@ -115,6 +135,14 @@ fn the_greatest_numbers() {
         line(New, 4_294_967_295, [15, 3, 0, 0, 0, 65_535, 0b111111_111111]),
         "4294967295 channel 3: record 63 settled, block 63 now unconfigured, last 65535 pages moved"
     );
+    assert_eq!(
+        line(New, 4_294_967_295, [10, 3, 3, 0, 7, 0, u64::MAX]),
+        "4294967295 channel 3: request 18446744073709551615 to service 3 answered, code 7"
+    );
+    assert_eq!(
+        line(New, 4_294_967_295, [21, 3, 2, 0, 0, 0, u64::MAX]),
+        "4294967295 channel 3: shutdown ordered, delay 18446744073709551615 milliseconds"
+    );
 }
 
 #[test]
@@ -128,6 +156,10 @@ fn kind_15_in_each_edition() {
         line(Old, 9, [15, 2, 0, 14, 4, 0, 13]),
         "9 channel 2: record 14 settled, block 13 was unconfigured before"
     );
+    assert_eq!(
+        line(Old, 9, [15, 2, 0, 14, 6, 2, 13]),
+        "9 channel 2: record 14 settled, block 13 left as it was, code 6"
+    );
     // Ticket 8: the block in the low six bits of w, the record in the next six.
     assert_eq!(
         line(New, 9, [15, 2, 0, 0, 0, 5, 0b011110_101101]),
@@ -136,6 +168,10 @@ fn kind_15_in_each_edition() {
     assert_eq!(
         line(New, 9, [15, 2, 0, 0, 4, 0, 0b011110_101101]),
         "9 channel 2: record 30 settled, block 45 was unconfigured before"
+    );
+    assert_eq!(
+        line(New, 9, [15, 2, 0, 0, 6, 2, 0b011110_101101]),
+        "9 channel 2: record 30 settled, block 45 left as it was, code 6"
     );
 }
 

@@ -1,10 +1,10 @@
 //! What saved files reached.
 
 use super::damage::Damage;
-use super::wordings::{wording, MARK, WORDINGS};
+use super::wordings::{wording, wordings, MARK};
 use super::File;
 use crate::block::Blocks;
-use crate::entry::{CHANNEL, COUNT, EDITION, KIND, SERVICE};
+use crate::entry::{CHANNEL, CODE, COUNT, EDITION, KIND, SERVICE};
 use crate::reader::fields::{named, KINDS};
 use crate::reader::{Bad, Edition, Reading, Verdict, ENTRY, PIECE, WORD};
 use crate::state::{SERVICES, TOP_BIT};
@@ -42,6 +42,38 @@ const MORE: [&str; 7] = [
     "kind 15 of a block from 16 on",
     "kind 15 of a record from 16 on",
 ];
+
+/// What chooses the words of a line that does not tell it: each value of these
+/// fields, each service of an order.
+const CHOOSING: [&str; 4] = [
+    "kind  2 of w",
+    "kind 16 of count",
+    "kind 18 of w",
+    "kind 19 of code",
+];
+const VALUES: [&str; 3] = ["0", "1", "2 or more"];
+const ORDERED: &str = "kind 21 of code 0 and service";
+
+/// What must be reached of these.
+fn choosing_names() -> impl Iterator<Item = String> {
+    let values = |field| VALUES.map(|value| format!("{field} {value}"));
+    let services = (0..SERVICES).map(|service| format!("{ORDERED} {service}"));
+    CHOOSING.into_iter().flat_map(values).chain(services)
+}
+
+/// The one of them that an entry is of.
+fn choosing(first: u64, second: u64) -> Option<String> {
+    let (place, value) = match KIND.of(first) {
+        2 => (0, second),
+        16 => (1, COUNT.of(first)),
+        18 => (2, second),
+        19 => (3, CODE.of(first)),
+        21 if CODE.of(first) == 0 => return Some(format!("{ORDERED} {}", SERVICE.of(first))),
+        _ => return None,
+    };
+    let value = VALUES[value.min(2) as usize];
+    Some(format!("{} {value}", CHOOSING[place]))
+}
 
 /// Whether an entry is of `BARE`, after the reading before it.
 fn is_bare(before: &Reading, first: u64, second: u64) -> bool {
@@ -93,8 +125,8 @@ const LONG: &str = "file longer than is read at once";
 
 /// The lines of entries that files of an edition must reach.
 fn line_names(edition: Edition) -> impl Iterator<Item = String> {
-    let mark = (edition == Edition::New).then_some(MARK);
-    let lines = WORDINGS.into_iter().chain(mark);
+    let mark = (edition == Edition::New).then(|| MARK.to_string());
+    let lines = wordings().chain(mark);
     lines.map(move |line| format!("line {edition} {line}"))
 }
 
@@ -112,6 +144,7 @@ fn good_names(edition: Edition) -> Vec<String> {
     let mut names: Vec<String> = kinds.map(|kind| format!("kind {kind:2}")).collect();
     names.extend(GROWN.map(String::from));
     names.extend((0..SERVICES).map(|service| format!("kind 10 of service {service}")));
+    names.extend(choosing_names());
     names.extend([BARE, "file", "file of 16 blocks"].map(String::from));
     match edition {
         Edition::Old => names.push("file of no entries".into()),
@@ -204,7 +237,8 @@ impl Counts {
                 self.add(format!("good {edition} kind 10 of service {service}"));
             }
             let said = removal.entry(first, second, reading);
-            for name in said.into_iter().chain(more(edition, first, second)) {
+            let said = said.into_iter().chain(more(edition, first, second));
+            for name in said.map(String::from).chain(choosing(first, second)) {
                 self.add(format!("good {edition} {name}"));
             }
         }

@@ -29,9 +29,9 @@ pub fn whole(random: &mut Random, drained: &Saved) -> Saved {
 /// Adds entries of the kinds that show nothing, where the file stays good:
 /// kinds 8 and 10 need their service.
 fn add_others(random: &mut Random, saved: &mut Saved) {
-    for _ in 0..random.between(1, 6) {
+    for _ in 0..random.between(1, 30) {
         let kind = match random.once_in(2) {
-            true => random.pick(&[8, 10, 10]),
+            true => random.pick(&[8, 10, 10, 10, 10]),
             false => random.pick(&OTHERS),
         };
         let place = random.between(saved.first_place(), saved.entries.len() as u64) as usize;
@@ -89,7 +89,7 @@ fn grow(random: &mut Random, saved: &mut Saved) {
 fn next_kind(random: &mut Random, reading: &Reading) -> u64 {
     match random.weighted(&[10, 20, 20, 50]) {
         0 => random.below(KINDS as u64),
-        1 => random.pick(&[1, 4, 4, 5, 5, 9, 11, 11]),
+        1 => random.pick(&[1, 4, 4, 5, 5, 9, 10, 11, 11, 11]),
         2 => random.between(1, 17),
         _ if reading.removal.is_none() => 12,
         _ => random.pick(&STEPS),
