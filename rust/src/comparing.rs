@@ -123,13 +123,23 @@ fn line_around(output: &[u8], at: usize) -> String {
     }
 }
 
+/// The first byte at which the outputs differ, or one of them ends.
+fn first_difference(ours: &[u8], theirs: &[u8]) -> usize {
+    let both = ours.iter().zip(theirs);
+    both.take_while(|(ours, theirs)| ours == theirs).count()
+}
+
+/// Prints the first line that differs, of the other program and of the
+/// independent one.
+pub fn print_lines(other: &str, ours: &[u8], theirs: &[u8]) {
+    let at = first_difference(ours, theirs);
+    println!("{other}: {}", line_around(theirs, at));
+    println!("independent: {}", line_around(ours, at));
+}
+
 /// Reports the first difference.
 fn report(other: &str, input: &[u8], (ours, ends): (&[u8], &[usize]), theirs: &[u8]) {
-    let same = ours
-        .iter()
-        .zip(theirs)
-        .take_while(|(ours, theirs)| ours == theirs);
-    let at = same.count();
+    let at = first_difference(ours, theirs);
     let number = ends
         .partition_point(|end| *end <= at)
         .min(ends.len().saturating_sub(1));
@@ -140,6 +150,5 @@ fn report(other: &str, input: &[u8], (ours, ends): (&[u8], &[usize]), theirs: &[
         number + 1,
         String::from_utf8_lossy(line)
     );
-    println!("{other}: {}", line_around(theirs, at));
-    println!("independent: {}", line_around(ours, at));
+    print_lines(other, ours, theirs);
 }

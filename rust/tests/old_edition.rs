@@ -11,7 +11,10 @@ fn old_files_are_printed_as_before() -> io::Result<()> {
     let mut files = 0;
     for entry in fs::read_dir(directory)? {
         let path = entry?.path();
-        if path.extension().is_none_or(|extension| extension != "saved") {
+        if path
+            .extension()
+            .is_none_or(|extension| extension != "saved")
+        {
             continue;
         }
         let saved = fs::read(&path)?;

@@ -3,7 +3,7 @@
 //! them; what is judged of them is judged in the new edition too.
 
 mod common;
-use common::BLOCK_LIST;
+use common::{file, many, numbered, words, Entry, BLOCK_LIST, MARK};
 use independent::generate::generate;
 use independent::lines::{Call, Host, Line};
 use independent::reader::{output, read};
@@ -13,32 +13,9 @@ use std::io::{self, Read};
 /// The top bit of our handles.
 const OURS: u64 = 1 << 63;
 
-/// The fields of an entry after its number: kind, channel, service, record,
-/// code, count, w.
-type Entry = [u64; 7];
-
-/// Two words of an entry.
-fn words(number: u64, entry: Entry) -> [u64; 2] {
-    let [kind, channel, service, record, code, count, w] = entry;
-    let fields = kind << 27 | channel << 25 | service << 23 | record << 19 | code << 16 | count;
-    [number << 32 | fields, w]
-}
-
-fn file(words: &[u64], entries: &[[u64; 2]]) -> Vec<u8> {
-    let count = [words.len() as u64];
-    let all = count.iter().chain(words).chain(entries.as_flattened());
-    all.flat_map(|word| word.to_be_bytes()).collect()
-}
-
 /// What the reader prints for a file.
 fn print(file: &[u8]) -> String {
     String::from_utf8(output(&read(file).unwrap())).unwrap()
-}
-
-/// Entries numbered from 1.
-fn numbered(entries: &[Entry]) -> Vec<[u64; 2]> {
-    let numbered = (1..).zip(entries);
-    numbered.map(|(at, entry)| words(at, *entry)).collect()
 }
 
 /// What it prints for entries numbered from 1, over the blocks A (4 pages), B
@@ -46,8 +23,6 @@ fn numbered(entries: &[Entry]) -> Vec<[u64; 2]> {
 fn print_entries(entries: &[Entry]) -> String {
     print(&file(&BLOCK_LIST, &numbered(entries)))
 }
-
-const MARK: Entry = [31, 0, 0, 0, 0, 0, 0];
 
 /// The new edition of an old journal's entry: a handle has the top bit, and the
 /// number after the mark; kind 15 has its record in w.
@@ -558,12 +533,6 @@ fn registered_and_offered_lines() {
     // INIT_REQ on a ready channel leaves its services idle.
     let again = [&entries[..], &[READY]].concat();
     assert!(print_entries(&again).contains("channel 2 ready\nchannel 3 closed\n"));
-}
-
-/// So many blocks of a page each, all configured.
-fn many(count: u64) -> Vec<u64> {
-    let blocks = (0..count).map(|at| [at * 8192, 1, 0, 0, 1]);
-    blocks.flatten().collect()
 }
 
 #[test]

@@ -1,9 +1,11 @@
 //! The saved files, and the comparison of a reader with the independent one.
 
-use independent::reader::{output, read};
+use independent::reader::{output, read, read_entries};
 use independent::saved::counts::Counts;
 use independent::saved::list::lists;
 use independent::saved::{batch, files, write_long, File};
+use std::fs::{self, Permissions};
+use std::os::unix::fs::PermissionsExt;
 use std::process::{Command, Output, Stdio};
 
 fn compare(reader: &str, rest: &[&str]) -> Output {
@@ -18,8 +20,8 @@ fn text(output: &Output) -> String {
 /// Reads and removes the file that was kept.
 fn take_kept(text: &str) -> Vec<u8> {
     let path = text.lines().last().unwrap().rsplit(' ').next().unwrap();
-    let kept = std::fs::read(path).unwrap();
-    std::fs::remove_file(path).unwrap();
+    let kept = fs::read(path).unwrap();
+    fs::remove_file(path).unwrap();
     kept
 }
 
@@ -37,7 +39,9 @@ fn our_own_reader_agrees() {
 fn zero_counts_fail_and_are_named() {
     let output = compare(READER, &["20", "1"]);
     assert_eq!(output.status.code(), Some(1));
-    assert!(text(&output).contains("\nzero: bad new kind 31 unnamed w\n"));
+    let text = text(&output);
+    assert!(text.contains("\nzero: bad new kind 31 unnamed w\n"));
+    assert!(text.contains("\nzero: line old N channel N: "));
 }
 
 #[test]
@@ -50,10 +54,56 @@ fn a_reader_that_differs_fails() {
         assert!(text.starts_with("difference at file "), "{text}");
         let kept = take_kept(&text);
         let independent = output_of(&kept);
-        assert!(text.contains(&format!("\nindependent:\n{independent}")));
+        let line = independent.lines().next().unwrap();
+        assert!(text.contains(&format!("\nindependent: {line}\n")));
     }
     let output = compare("no-such-program", &["100", "1"]);
     assert_eq!(output.status.code(), Some(1));
+}
+
+/// Compares a reader that is a script, `$reader` our own.
+fn compare_script(name: &str, script: &str, seed: &str) -> Output {
+    let path = std::env::temp_dir().join(name);
+    fs::write(&path, format!("#!/bin/sh\nreader='{READER}'\n{script}\n")).unwrap();
+    fs::set_permissions(&path, Permissions::from_mode(0o700)).unwrap();
+    let output = compare(path.to_str().unwrap(), &["200", seed]);
+    fs::remove_file(path).unwrap();
+    output
+}
+
+#[test]
+fn lines_of_entries_that_differ_fail() {
+    // Readers that are right without the option: one takes no notice of it, one
+    // has another word, one leaves lines out.
+    for (name, script, seed) in [
+        ("no-lines", "exec \"$reader\"", "43"),
+        (
+            "another-word",
+            "\"$reader\" \"$@\" | sed 's/, no reply$/, no answer/'",
+            "44",
+        ),
+        (
+            "a-line-less",
+            "\"$reader\" \"$@\" | sed '/: message of type /d'",
+            "45",
+        ),
+    ] {
+        let output = compare_script(&format!("independent-{name}"), script, seed);
+        assert_eq!(output.status.code(), Some(1), "{name}");
+        let text = text(&output);
+        let first = text.lines().next().unwrap();
+        assert!(first.starts_with("difference at file "), "{text}");
+        assert!(first.ends_with(&format!(" from seed {seed}, with --entries")));
+        take_kept(&text);
+    }
+}
+
+#[test]
+fn lines_that_are_the_same_pass() {
+    // Only its counts are too few.
+    let output = compare_script("independent-same", "exec \"$reader\" \"$@\"", "46");
+    assert_eq!(output.status.code(), Some(1));
+    assert!(text(&output).contains("\n200 files from seed 46: no difference, "));
 }
 
 fn output_of(bytes: &[u8]) -> String {
@@ -73,15 +123,27 @@ fn the_same_for_the_same_seed() {
 fn a_batch_reaches_everything() {
     for seed in 1..=3 {
         let mut counts = Counts::default();
+        let listed = line_names(&counts);
         for file in batch(seed, 0) {
-            let verdict = read(file.bytes.as_slice()).unwrap();
+            let mut lines = Vec::new();
+            let verdict = read_entries(file.bytes.as_slice(), &mut lines).unwrap();
             // What was not damaged is good.
             assert!(file.damaged || verdict.is_ok());
-            counts.file(&file, &verdict);
+            counts.file(&file, &verdict, &lines);
         }
         assert_eq!(counts.zeros(), [""; 0]);
         assert_eq!(counts.files(), 2_000);
+        // Every line has one of the wordings that are looked for.
+        assert_eq!(line_names(&counts), listed);
     }
+}
+
+/// The wordings of lines that are counted, in each edition.
+fn line_names(counts: &Counts) -> Vec<String> {
+    let table = counts.to_string();
+    let lines = table.lines().filter(|line| line.starts_with("line "));
+    let names = lines.map(|line| line.rsplit_once(' ').unwrap().0.trim_end());
+    names.map(String::from).collect()
 }
 
 #[test]
@@ -92,11 +154,11 @@ fn too_few_damaged_files_are_told() {
         damaged,
     };
     let verdict = read([0; 8].as_slice()).unwrap();
-    counts.file(&damaged(true), &verdict);
-    counts.file(&damaged(false), &verdict);
+    counts.file(&damaged(true), &verdict, &[]);
+    counts.file(&damaged(false), &verdict, &[]);
     let half = "half of the files damaged".to_string();
     assert!(!counts.zeros().contains(&half));
-    counts.file(&damaged(false), &verdict);
+    counts.file(&damaged(false), &verdict, &[]);
     assert!(counts.zeros().contains(&half));
     assert!(!counts
         .zeros()
@@ -167,12 +229,12 @@ fn the_programs() {
     assert!(ended.success());
     for (number, file) in (1..).zip(files(5, 3)) {
         let name = directory.join(format!("{number}.saved"));
-        assert_eq!(std::fs::read(&name).unwrap(), file.bytes);
-        let input = Stdio::from(std::fs::File::open(&name).unwrap());
+        assert_eq!(fs::read(&name).unwrap(), file.bytes);
+        let input = Stdio::from(fs::File::open(&name).unwrap());
         let printed = Command::new(READER).stdin(input).output().unwrap();
         assert_eq!(text(&printed), output_of(&file.bytes));
     }
-    std::fs::remove_dir_all(directory).unwrap();
+    fs::remove_dir_all(directory).unwrap();
     let long = Command::new(saved)
         .args(["--long", "100"])
         .output()

@@ -1,9 +1,9 @@
 //! `compare_reader PROGRAM FILES SEED`: gives saved files, whole and damaged,
-//! to PROGRAM and to the independent reader, compares their outputs byte for
-//! byte, and counts what the files reached.
+//! to PROGRAM and to the independent reader, without and with `--entries`,
+//! compares their outputs byte for byte, and counts what the files reached.
 
-use independent::comparing::{print_zeros, verdict};
-use independent::reader::{output, read};
+use independent::comparing::{print_lines, print_zeros, verdict};
+use independent::reader::{output, read_entries};
 use independent::saved::counts::Counts;
 use independent::saved::{batch, File, BATCH};
 use std::io::{self, ErrorKind, Write};
@@ -21,18 +21,24 @@ struct Comparison {
 }
 
 /// The output of the program for a file; none if it was ended by a signal.
-/// The program need not read a bad file to its end.
-fn run(program: &str, file: &[u8]) -> io::Result<Option<Vec<u8>>> {
+/// The program need not read a bad file to its end. With `--entries` it writes
+/// while it reads, so that the file is written from a thread.
+fn run(program: &str, option: Option<&str>, file: &[u8]) -> io::Result<Option<Vec<u8>>> {
     let mut child = Command::new(program)
+        .args(option)
         .stdin(Stdio::piped())
         .stdout(Stdio::piped())
         .spawn()?;
     let mut stdin = child.stdin.take().ok_or(ErrorKind::BrokenPipe)?;
-    match stdin.write_all(file) {
+    let (output, written) = thread::scope(|scope| {
+        let writer = scope.spawn(move || stdin.write_all(file));
+        (child.wait_with_output(), writer.join())
+    });
+    match written.expect("no thread panics") {
         Err(error) if error.kind() != ErrorKind::BrokenPipe => return Err(error),
-        _ => drop(stdin),
+        _ => {}
     }
-    let output = child.wait_with_output()?;
+    let output = output?;
     Ok(output.status.code().map(|_| output.stdout))
 }
 
@@ -56,21 +62,37 @@ impl Comparison {
         }
     }
 
+    /// Compares the outputs for a file, without and with the lines of entries.
     fn file(&self, number: u64, file: &File, counts: &mut Counts) -> io::Result<()> {
-        let verdict = read(file.bytes.as_slice())?;
-        let ours = output(&verdict);
-        let theirs = run(&self.program, &file.bytes)?;
-        if theirs.as_ref() == Some(&ours) {
-            counts.file(file, &verdict);
-            return Ok(());
+        let mut lines = Vec::new();
+        let verdict = read_entries(file.bytes.as_slice(), &mut lines)?;
+        let shown = output(&verdict);
+        let all = [lines.as_slice(), &shown].concat();
+        for (option, ours) in [(None, shown), (Some("--entries"), all)] {
+            let theirs = run(&self.program, option, &file.bytes)?;
+            if theirs.as_ref() != Some(&ours) {
+                let theirs = theirs.unwrap_or(b"(ended by a signal)\n".to_vec());
+                return self.report((number, file), option, &ours, &theirs);
+            }
         }
+        counts.file(file, &verdict, &lines);
+        Ok(())
+    }
+
+    /// Reports a difference, unless another was, and keeps the file.
+    fn report(
+        &self,
+        (number, file): (u64, &File),
+        option: Option<&str>,
+        ours: &[u8],
+        theirs: &[u8],
+    ) -> io::Result<()> {
         if self.differs.swap(true, Ordering::Relaxed) {
             return Ok(());
         }
-        let theirs = theirs.unwrap_or(b"(ended by a signal)\n".to_vec());
-        println!("difference at file {number} from seed {}", self.seed);
-        println!("{}:\n{}", self.program, String::from_utf8_lossy(&theirs));
-        println!("independent:\n{}", String::from_utf8_lossy(&ours));
+        let how = option.map_or(String::new(), |option| format!(", with {option}"));
+        println!("difference at file {number} from seed {}{how}", self.seed);
+        print_lines(&self.program, ours, theirs);
         let kept = format!("difference-{}-{number}.saved", self.seed);
         let path = env::temp_dir().join(kept);
         fs::write(&path, &file.bytes)?;

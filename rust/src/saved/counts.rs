@@ -1,11 +1,12 @@
 //! What saved files reached.
 
 use super::damage::Damage;
+use super::wordings::{wording, wordings, MARK};
 use super::File;
 use crate::block::Blocks;
-use crate::entry::{CHANNEL, COUNT, EDITION, KIND, SERVICE};
+use crate::entry::{CHANNEL, CODE, COUNT, EDITION, KIND, SERVICE};
 use crate::reader::fields::{named, KINDS};
-use crate::reader::{output, Edition, Reading, Verdict, ENTRY, WORD};
+use crate::reader::{Bad, Edition, Reading, Verdict, ENTRY, PIECE, WORD};
 use crate::state::{SERVICES, TOP_BIT};
 use crate::wire::get64;
 use std::collections::BTreeMap;
@@ -32,14 +33,47 @@ const GROWN: [&str; 3] = [
 const BARE: &str = "kind  9 of a registered handle but for its top bit";
 
 /// What only a new journal can say.
-const MORE: [&str; 6] = [
+const MORE: [&str; 7] = [
     "file of 17 to 63 blocks",
     "file of 64 blocks",
     "kind 11 of a block from 16 on",
+    "kind 11 of 64 blocks",
     "kind 12 of 17 to 64 records",
     "kind 15 of a block from 16 on",
     "kind 15 of a record from 16 on",
 ];
+
+/// What chooses the words of a line that does not tell it: each value of these
+/// fields, each service of an order.
+const CHOOSING: [&str; 4] = [
+    "kind  2 of w",
+    "kind 16 of count",
+    "kind 18 of w",
+    "kind 19 of code",
+];
+const VALUES: [&str; 3] = ["0", "1", "2 or more"];
+const ORDERED: &str = "kind 21 of code 0 and service";
+
+/// What must be reached of these.
+fn choosing_names() -> impl Iterator<Item = String> {
+    let values = |field| VALUES.map(|value| format!("{field} {value}"));
+    let services = (0..SERVICES).map(|service| format!("{ORDERED} {service}"));
+    CHOOSING.into_iter().flat_map(values).chain(services)
+}
+
+/// The one of them that an entry is of.
+fn choosing(first: u64, second: u64) -> Option<String> {
+    let (place, value) = match KIND.of(first) {
+        2 => (0, second),
+        16 => (1, COUNT.of(first)),
+        18 => (2, second),
+        19 => (3, CODE.of(first)),
+        21 if CODE.of(first) == 0 => return Some(format!("{ORDERED} {}", SERVICE.of(first))),
+        _ => return None,
+    };
+    let value = VALUES[value.min(2) as usize];
+    Some(format!("{} {value}", CHOOSING[place]))
+}
 
 /// Whether an entry is of `BARE`, after the reading before it.
 fn is_bare(before: &Reading, first: u64, second: u64) -> bool {
@@ -86,6 +120,16 @@ impl RemovalSteps {
     }
 }
 
+/// A file that no reader takes at once.
+const LONG: &str = "file longer than is read at once";
+
+/// The lines of entries that files of an edition must reach.
+fn line_names(edition: Edition) -> impl Iterator<Item = String> {
+    let mark = (edition == Edition::New).then(|| MARK.to_string());
+    let lines = wordings().chain(mark);
+    lines.map(move |line| format!("line {edition} {line}"))
+}
+
 /// Counts by name.
 pub struct Counts {
     listed: BTreeMap<String, u64>,
@@ -100,6 +144,7 @@ fn good_names(edition: Edition) -> Vec<String> {
     let mut names: Vec<String> = kinds.map(|kind| format!("kind {kind:2}")).collect();
     names.extend(GROWN.map(String::from));
     names.extend((0..SERVICES).map(|service| format!("kind 10 of service {service}")));
+    names.extend(choosing_names());
     names.extend([BARE, "file", "file of 16 blocks"].map(String::from));
     match edition {
         Edition::Old => names.push("file of no entries".into()),
@@ -118,7 +163,9 @@ impl Default for Counts {
             let lines = SHOWN.iter();
             lines.map(move |line| format!("shown {edition} {line}"))
         });
-        let names = bad.chain(good).chain(shown);
+        let lines = Edition::ALL.into_iter().flat_map(line_names);
+        let names = bad.chain(good).chain(shown).chain(lines);
+        let names = names.chain([LONG.to_string()]);
         Counts {
             listed: names.map(|name| (name, 0)).collect(),
             files: 0,
@@ -131,9 +178,9 @@ impl Default for Counts {
 fn more(edition: Edition, first: u64, second: u64) -> Vec<&'static str> {
     let (record, block) = edition.settled(first, second);
     let tests = match KIND.of(first) {
-        11 => [(second >> 16 != 0, MORE[2]), (false, "")],
-        12 => [((17..=64).contains(&COUNT.of(first)), MORE[3]), (false, "")],
-        15 => [(block > 15, MORE[4]), (record > 15, MORE[5])],
+        11 => [(second >> 16 != 0, MORE[2]), (second == u64::MAX, MORE[3])],
+        12 => [((17..=64).contains(&COUNT.of(first)), MORE[4]), (false, "")],
+        15 => [(block > 15, MORE[5]), (record > 15, MORE[6])],
         _ => return Vec::new(),
     };
     let met = tests.iter().filter(|(met, _)| *met);
@@ -151,17 +198,25 @@ impl Counts {
         *self.listed.entry(name).or_default() += 1;
     }
 
-    /// Counts a file and what the reader says of it.
-    pub fn file(&mut self, file: &File, verdict: &Verdict) {
+    /// Counts a file, what the reader says of it, and the lines of its entries.
+    pub fn file(&mut self, file: &File, verdict: &Verdict, lines: &[u8]) {
         self.files += 1;
         self.damaged += u64::from(file.damaged);
-        let reading = match verdict {
-            Ok(reading) => reading,
-            Err(bad) => return self.add(format!("bad {}", Damage::of(bad))),
-        };
+        if file.bytes.len() > PIECE {
+            self.add(LONG.to_string());
+        }
+        self.lines(verdict, lines);
+        match verdict {
+            Ok(reading) => self.good(&file.bytes, reading),
+            Err(bad) => self.add(format!("bad {}", Damage::of(bad))),
+        }
+    }
+
+    /// Counts what a good file says and shows.
+    fn good(&mut self, file: &[u8], reading: &Reading) {
         let edition = reading.edition;
-        self.bare(&file.bytes, edition);
-        let entries = entries_of(&file.bytes);
+        self.bare(file, edition);
+        let entries = entries_of(file);
         self.add(format!("good {edition} file"));
         if entries.len() == 0 {
             self.add(format!("good {edition} file of no entries"));
@@ -182,15 +237,28 @@ impl Counts {
                 self.add(format!("good {edition} kind 10 of service {service}"));
             }
             let said = removal.entry(first, second, reading);
-            for name in said.into_iter().chain(more(edition, first, second)) {
+            let said = said.into_iter().chain(more(edition, first, second));
+            for name in said.map(String::from).chain(choosing(first, second)) {
                 self.add(format!("good {edition} {name}"));
             }
         }
-        for line in String::from_utf8_lossy(&output(verdict)).lines() {
+        for line in String::from_utf8_lossy(&reading.lines()).lines() {
             let mut words = line.split(' ');
             if let (Some(what), Some(_), Some(how)) = (words.next(), words.next(), words.next()) {
                 self.add(format!("shown {edition} {what} {how}"));
             }
+        }
+    }
+
+    /// Counts the lines of a file's good entries.
+    fn lines(&mut self, verdict: &Verdict, lines: &[u8]) {
+        let edition = match verdict {
+            Ok(reading) => reading.edition,
+            Err(Bad::Entry { edition, .. }) => *edition,
+            Err(Bad::Blocks(_)) => return,
+        };
+        for line in String::from_utf8_lossy(lines).lines() {
+            self.add(format!("line {edition} {}", wording(line)));
         }
     }
 
@@ -237,8 +305,8 @@ impl Counts {
 impl Display for Counts {
     fn fmt(&self, text: &mut Formatter) -> fmt::Result {
         for (name, count) in &self.listed {
-            writeln!(text, "{name:60} {count:>10}")?;
+            writeln!(text, "{name:84} {count:>10}")?;
         }
-        writeln!(text, "{:60} {:>10}", "files damaged", self.damaged)
+        writeln!(text, "{:84} {:>10}", "files damaged", self.damaged)
     }
 }

@@ -21,7 +21,10 @@ pub fn entry(random: &mut Random, reading: &Reading, kind: usize) -> [u64; 2] {
             Field::Service => service,
             Field::Record if kind == 15 => RECORD.of(settled[0]),
             Field::Record => random.below(16),
-            Field::Code => random.pick(&[0, 0, 0, 1, 2, 3, 4, 5, 7]),
+            Field::Code if matches!(kind, 10 | 16) => random.up_to(Field::Code.most()),
+            Field::Code if kind == 19 && random.per_mille(300) => 1,
+            Field::Code => random.pick(&[0, 0, 0, 1, 2, 3, 4, 5, 6, 7]),
+            Field::Count if kind == 16 && random.per_mille(400) => 1,
             Field::Count => count(random, reading, block),
             Field::W => match kind {
                 5 | 9 if random.once_in(4) => handle(random, reading, channel) ^ TOP_BIT,
@@ -90,15 +93,16 @@ fn block(random: &mut Random, reading: &Reading) -> u64 {
     }
 }
 
-/// Pages: what remains of a block, one more, or any number.
+/// Pages: what remains of a block, one more, none, one, or any number.
 fn count(random: &mut Random, reading: &Reading, block: u64) -> u64 {
     let collected = reading.removal.map_or(0, |removal| removal.collected);
     let listed = reading.blocks.listed().get(block as usize);
     let remains = listed.map_or(0, |block| block.pages.saturating_sub(collected));
-    let count = match random.weighted(&[30, 30, 20, 20]) {
+    let count = match random.weighted(&[35, 20, 15, 15, 15]) {
         0 => remains,
         1 => remains + 1,
-        2 => random.below(10),
+        2 => random.below(2),
+        3 => random.below(10),
         _ => random.next() >> 48,
     };
     count.min(Field::Count.most())
@@ -121,18 +125,22 @@ fn handle(random: &mut Random, reading: &Reading, channel: u64) -> u64 {
     }
 }
 
-/// Bits of blocks, mostly of those that are listed.
+/// Bits of blocks, mostly of those that are listed: some, one, none or all.
 fn bits(random: &mut Random, reading: &Reading) -> u64 {
-    let any = random.next();
     let count = reading.blocks.count as u64;
-    if count == 64 {
-        return any;
-    }
-    let listed = any & ((1 << count) - 1);
-    match random.weighted(&[60, 15, 15, 10]) {
+    let all = match count {
+        64 => u64::MAX,
+        _ => (1 << count) - 1,
+    };
+    let listed = random.next() & all;
+    match random.weighted(&[30, 10, 10, 10, 10, 15, 15]) {
         0 => listed,
-        1 => listed | 1 << count,
-        2 => listed | 1 << random.between(count, 63),
-        _ => random.next(),
+        1 => 1 << random.below(count.max(1)),
+        2 => 0,
+        3 => random.next(),
+        // With 64 blocks no bit is one too many.
+        5 if count < 64 => listed | 1 << count,
+        6 if count < 64 => listed | 1 << random.between(count, 63),
+        _ => all,
     }
 }

@@ -7,11 +7,12 @@ mod entries;
 pub mod list;
 mod long;
 mod whole;
+mod wordings;
 
 pub use long::{write_long, MAX_ENTRIES};
 
 use crate::generate::random::Random;
-use crate::reader::Edition;
+use crate::reader::{Edition, ENTRY, PIECE};
 use damage::Damage;
 use list::{lists, Saved};
 
@@ -28,6 +29,8 @@ pub const BATCH: u64 = 2_000;
 const CALLS: u64 = 30_000;
 /// The most entries that are taken from one list.
 const MAX_TAKEN: u64 = 300;
+/// The entries of a long file, more than are read at once.
+const LONG: u64 = (PIECE / ENTRY) as u64;
 
 /// So many files from a seed, the same for the same seed.
 pub fn files(seed: u64, count: u64) -> impl Iterator<Item = File> {
@@ -36,19 +39,33 @@ pub fn files(seed: u64, count: u64) -> impl Iterator<Item = File> {
     files.take(count as usize)
 }
 
-/// The files of one batch. Three of five are damaged, by each damage in turn.
+/// The files of one batch. The first is long; three of five are damaged, by
+/// each damage in turn.
 pub fn batch(seed: u64, number: u64) -> Vec<File> {
     let mut random = Random::new(seed ^ number.wrapping_mul(0x2545_f491_4f6c_dd1d));
     let lists = Lists::new(random.next());
     let mut damages = Damage::all().into_iter().cycle();
-    let mut next = |damaged| {
+    let mut next = |place| {
+        let damaged = place % 5 > 1;
         let bytes = match damaged {
+            _ if place == 0 => return long(&mut random),
             false => lists.good(&mut random, None).bytes(),
             true => lists.bad(&mut random, damages.next()),
         };
         File { bytes, damaged }
     };
-    (0..BATCH).map(|place| next(place % 5 > 1)).collect()
+    (0..BATCH).map(&mut next).collect()
+}
+
+/// A file that no reader takes at once; half of them are cut in the last entry.
+fn long(random: &mut Random) -> File {
+    let mut bytes = Vec::new();
+    write_long(random.between(LONG + 1, 2 * LONG), &mut bytes).expect("bytes are written");
+    let damaged = random.once_in(2);
+    if damaged {
+        bytes.truncate(bytes.len() - random.between(1, ENTRY as u64 - 1) as usize);
+    }
+    File { bytes, damaged }
 }
 
 /// What lists of calls drained, in each edition.
@@ -61,13 +78,11 @@ impl Lists {
     fn new(seed: u64) -> Lists {
         let all = lists(seed, CALLS);
         let mut old: Vec<Saved> = all.iter().filter_map(Saved::to_old).collect();
-        let of_edition = |edition| move |saved: &Saved| saved.edition() == edition;
-        old.extend(
-            all.iter()
-                .filter(|saved| of_edition(Edition::Old)(saved))
-                .cloned(),
-        );
-        let new = all.into_iter().filter(of_edition(Edition::New)).collect();
+        // Without an entry the edition is old; a part of these will do.
+        let (new, empty): (Vec<Saved>, Vec<Saved>) = all
+            .into_iter()
+            .partition(|saved| saved.edition() == Edition::New);
+        old.extend(empty.into_iter().step_by(4));
         Lists { old, new }
     }
 

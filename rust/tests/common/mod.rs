@@ -1,4 +1,4 @@
-//! A bench for the tests: an agent with its buffers.
+//! A bench for the tests: an agent with its buffers; and saved files.
 #![allow(dead_code)] // each test program uses a part of it
 
 use independent::block::PAGE;
@@ -223,4 +223,36 @@ pub fn hex(text: &str) -> Vec<u8> {
         .chunks(2)
         .map(|pair| digit(pair[0]) << 4 | digit(pair[1]))
         .collect()
+}
+
+/// The fields of an entry after its number: kind, channel, service, record,
+/// code, count, w.
+pub type Entry = [u64; 7];
+
+pub const MARK: Entry = [31, 0, 0, 0, 0, 0, 0];
+
+/// Two words of an entry.
+pub fn words(number: u64, entry: Entry) -> [u64; 2] {
+    let [kind, channel, service, record, code, count, w] = entry;
+    let fields = kind << 27 | channel << 25 | service << 23 | record << 19 | code << 16 | count;
+    [number << 32 | fields, w]
+}
+
+/// Entries numbered from 1.
+pub fn numbered(entries: &[Entry]) -> Vec<[u64; 2]> {
+    let numbered = (1..).zip(entries);
+    numbered.map(|(at, entry)| words(at, *entry)).collect()
+}
+
+/// A saved file of a block list and entries.
+pub fn file(words: &[u64], entries: &[[u64; 2]]) -> Vec<u8> {
+    let count = [words.len() as u64];
+    let all = count.iter().chain(words).chain(entries.as_flattened());
+    all.flat_map(|word| word.to_be_bytes()).collect()
+}
+
+/// So many blocks of a page each, all configured.
+pub fn many(count: u64) -> Vec<u64> {
+    let blocks = (0..count).map(|at| [at * 8192, 1, 0, 0, 1]);
+    blocks.flatten().collect()
 }
