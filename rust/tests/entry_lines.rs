@@ -270,9 +270,37 @@ fn bad_blocks_alone() {
     assert_eq!(print(&[]), "bad blocks\n");
     assert_eq!(print(&file(&[1], &ready)), "bad blocks\n");
     assert_eq!(print(&file(&[0, 0, 0, 0, 0], &ready)), "bad blocks\n");
-    // Over 16 blocks before an old journal: its good first entry has no line.
-    assert_eq!(print(&file(&many(17), &ready)), "bad blocks\n");
+    assert_eq!(print(&file(&many(65), &ready)), "bad blocks\n");
     assert_eq!(print(&file(&many(65), &numbered(&[MARK]))), "bad blocks\n");
+}
+
+#[test]
+fn lines_of_an_old_journal_of_many_blocks() {
+    let entries = numbered(&[
+        [1, 2, 0, 0, 0, 0, 0],
+        [4, 2, 0, 0, 0, 0, 0],
+        [5, 2, 0, 0, 0, 0, 2],
+        [12, 2, 0, 0, 0, 2, 9],
+        [15, 2, 0, 0, 0, 1, 16],
+        [15, 2, 0, 1, 4, 0, 63],
+        [11, 2, 0, 0, 0, 0, 1 << 63 | 1 << 16],
+    ]);
+    let lines = "1 channel 2: ready
+2 channel 2: service 0 offered
+3 channel 2: service 0 registered, handle 2, minor 0
+4 channel 2: removal begun, 2 records, request 9
+5 channel 2: record 0 settled, block 16 now unconfigured, last 1 page moved
+6 channel 2: record 1 settled, block 63 was unconfigured before
+7 channel 2: blocks configured: 16 63
+channel 0 closed
+";
+    let printed = print(&file(&many(64), &entries));
+    assert!(printed.starts_with(lines), "{printed}");
+    assert!(printed.ends_with("\nblock 63 configured\nentries 7\n"));
+    // With 17 blocks the sixth entry is bad, and the five before it have lines.
+    let lines: Vec<&str> = lines.split_inclusive('\n').take(5).collect();
+    let expected = format!("{}bad entry at 6\n", lines.concat());
+    assert_eq!(print(&file(&many(17), &entries)), expected);
 }
 
 #[test]

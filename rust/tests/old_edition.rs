@@ -19,7 +19,8 @@ fn old_files_are_printed_as_before() -> io::Result<()> {
         }
         let saved = fs::read(&path)?;
         let printed = fs::read(path.with_extension("printed"))?;
-        assert_eq!(output(&read(saved.as_slice())?), printed, "{path:?}");
+        let verdict = read(saved.as_slice()).expect("bytes do not fail");
+        assert_eq!(output(&verdict), printed, "{path:?}");
         files += 1;
     }
     assert_eq!(files, 200);

@@ -179,16 +179,22 @@ fn block_lists() {
     let closed = "channel 0 closed\nchannel 1 closed\nchannel 2 closed\nchannel 3 closed\n";
     assert_eq!(print(&[0; 8]), format!("{closed}entries 0\n"));
     let many = many(65);
-    assert!(print(&file(&many[..80], &[])).ends_with("block 15 configured\nentries 0\n"));
-    let marked = numbered(&[MARK]);
-    for (blocks, journal) in [(16, &[][..]), (17, &marked), (63, &marked), (64, &marked)] {
-        let printed = print(&file(&many[..blocks * 5], journal));
-        let entries = journal.len();
-        let end = format!("block {} configured\nentries {entries}\n", blocks - 1);
-        assert!(printed.ends_with(&end));
+    let journals = [&[][..], &[READY], &[MARK]].map(numbered);
+    for blocks in [16, 17, 20, 63, 64] {
+        let listed: String = (0..blocks)
+            .map(|block| format!("block {block} configured\n"))
+            .collect();
+        for journal in &journals {
+            let printed = print(&file(&many[..blocks * 5], journal));
+            let entries = journal.len();
+            assert!(printed.ends_with(&format!("closed\n{listed}entries {entries}\n")));
+        }
     }
     // Over 64 blocks are bad at once, whatever follows.
-    assert_eq!(print(&file(&many, &marked)), "bad blocks\n");
+    for journal in &journals {
+        assert_eq!(print(&file(&many, journal)), "bad blocks\n");
+    }
+    assert_eq!(print(&325u64.to_be_bytes()), "bad blocks\n");
     assert_eq!(print(&326u64.to_be_bytes()), "bad blocks\n");
     for list in [
         &[1][..],
@@ -570,27 +576,126 @@ fn the_mark() {
     assert!(!last_is_good(&[READY, OFFER, [5, 2, 0, 0, 0, 0, OURS | 2]]));
 }
 
+/// Entries after a list of this many blocks, of five pages each.
+fn after_blocks(blocks: u64, entries: &[[u64; 2]]) -> Vec<u8> {
+    let list = (0..blocks).flat_map(|at| [at * 5 * 8192, 5, 0, 0, 1]);
+    file(&list.collect::<Vec<u64>>(), entries)
+}
+
 #[test]
-fn seventeen_blocks_before_an_old_journal() {
-    for blocks in [17, 63, 64] {
-        let list = many(blocks);
-        let bad = |rest: &[u8]| {
-            let file = [&file(&list, &[]), rest].concat();
-            assert_eq!(print(&file), "bad blocks\n");
+fn without_a_whole_entry_nothing_may_be_left_over() {
+    let closed = "channel 0 closed\nchannel 1 closed\nchannel 2 closed\nchannel 3 closed\n";
+    for blocks in [0, 1, 16, 17, 20, 64] {
+        let lines = (0..blocks).map(|block| format!("block {block} configured\n"));
+        let listed: String = lines.collect();
+        let whole = format!("{closed}{listed}entries 0\n");
+        // Of a mark, of another entry, of any bytes.
+        for entry in [NEW_DAY[0], DAY[0], [u64::MAX; 2]] {
+            let bytes = after_blocks(blocks, &[entry]);
+            let start = bytes.len() - 16;
+            assert_eq!(print(&bytes[..start]), whole);
+            for length in 1..16 {
+                assert_eq!(print(&bytes[..start + length]), "bad entry at 1\n");
+            }
+        }
+    }
+}
+
+#[test]
+fn a_journal_of_many_blocks_without_its_mark() {
+    for blocks in [16, 17, 20, 64] {
+        // New, and good: it shows its blocks.
+        let whole = print(&after_blocks(blocks, &NEW_DAY));
+        assert!(whole.ends_with(&format!("block {} configured\nentries 8\n", blocks - 1)));
+        // The mark lost, and more entries with it: the first number is not 1.
+        for lost in 1..NEW_DAY.len() {
+            let printed = print(&after_blocks(blocks, &NEW_DAY[lost..]));
+            assert_eq!(printed, "bad entry at 1\n");
+        }
+        // The first entry of another kind than 31: an unknown one, one that
+        // needs what is not there, one with an unnamed field.
+        for kind in [0, 25, 30, 4, 15] {
+            let mut entries = NEW_DAY;
+            entries[0][0] = 1 << 32 | kind << 27;
+            assert_eq!(print(&after_blocks(blocks, &entries)), "bad entry at 1\n");
+        }
+        let mut entries = NEW_DAY;
+        entries[0] = words(1, [20, 1, 0, 0, 0, 0, 0]);
+        assert_eq!(print(&after_blocks(blocks, &entries)), "bad entry at 1\n");
+        // One that is good in the old edition: its handles are bare numbers.
+        entries[0] = words(1, [20, 0, 0, 0, 0, 0, 0]);
+        assert_eq!(print(&after_blocks(blocks, &entries)), "bad entry at 4\n");
+        entries[3][1] = 3;
+        let printed = print(&after_blocks(blocks, &entries));
+        assert!(printed.contains("\nservice 0 registered 3 0\n"));
+        assert!(printed.ends_with("\nentries 8\n"));
+        // The mark at any other place is unknown.
+        let later = numbered(&[READY, MARK]);
+        assert_eq!(print(&after_blocks(blocks, &later)), "bad entry at 2\n");
+    }
+}
+
+#[test]
+fn an_old_journal_of_many_blocks() {
+    for blocks in [17, 20, 64] {
+        let printed = print(&after_blocks(blocks, &DAY));
+        let lines = (1..blocks).map(|block| format!("block {block} configured\n"));
+        let listed: String = lines.collect();
+        let expected = format!(
+            "channel 0 closed\nchannel 1 closed\nchannel 2 ready\n\
+             service 0 registered 2 0\nchannel 3 closed\nblock 0 unconfigured\n\
+             {listed}entries 7\n"
+        );
+        assert_eq!(printed, expected);
+        let good = |before: &[Entry], last: Entry| {
+            let entries = numbered(&[before, &[last]].concat());
+            let printed = print(&after_blocks(blocks, &entries));
+            let bad = printed == format!("bad entry at {}\n", entries.len());
+            assert!(bad || printed.ends_with(&format!("\nentries {}\n", entries.len())));
+            !bad
         };
-        let bytes = |entries: &[Entry]| file(&[], &numbered(entries))[8..].to_vec();
-        // No entry, a cut one (a cut mark too), a good one, bad ones.
-        let mark = bytes(&[MARK]);
-        (0..16).for_each(|length| bad(&mark[..length]));
-        let ready = bytes(&[READY]);
-        (0..=16).for_each(|length| bad(&ready[..length]));
-        bad(&bytes(&[OFFER]));
-        bad(&bytes(&[[30, 0, 0, 0, 0, 0, 0]]));
-        bad(&bytes(&[READY, MARK]));
-        bad(&file(&[], &[[!(1 << 27), u64::MAX]])[8..]); // kind 30, all else set
-        bad(&file(&[], &[words(2, READY)])[8..]);
-        // It is known at the first entry: a later bad one does not matter.
-        bad(&bytes(&[READY, READY, OFFER, OFFER]));
+        // Kind 11: bits of any listed block.
+        for bit in 0..64 {
+            let listed = bit < blocks;
+            assert_eq!(good(&MEMORY, [11, 2, 0, 0, 0, 0, 1 << bit]), listed);
+            assert_eq!(good(&MEMORY, [11, 2, 0, 0, 0, 0, 1 << bit | 1]), listed);
+        }
+        let all = u64::MAX >> (64 - blocks);
+        assert!(good(&MEMORY, [11, 2, 0, 0, 0, 0, all]));
+        assert_eq!(good(&MEMORY, [11, 2, 0, 0, 0, 0, u64::MAX]), blocks == 64);
+        // Kind 15: all of w is the block, which must be listed.
+        for block in 0..70 {
+            let listed = block < blocks;
+            assert_eq!(good(&REMOVAL, settled(0, 4, 0, block)), listed);
+            assert!(!good(&REMOVAL, settled(0, 4, 0, block | 1 << 6)));
+            assert!(!good(&REMOVAL, settled(0, 4, 0, block | 1 << 32)));
+        }
+        // The new edition's word, with the record from bit 6 on, is no block.
+        let one = [&REMOVAL[..], &[settled(0, 4, 0, 16)]].concat();
+        assert!(good(&one, settled(1, 4, 0, 16)));
+        assert!(!good(&one, settled(0, 4, 0, 1 << 6 | 16)));
+        assert!(!good(&one, settled(1, 4, 0, 1 << 6 | 16)));
+        // Pages are judged by the block, and code 0 unconfigures it.
+        assert!(good(&REMOVAL, settled(0, 0, 5, 16)));
+        assert!(!good(&REMOVAL, settled(0, 0, 6, 16)));
+        let taken = [&REMOVAL[..], &[settled(0, 0, 5, 16)]].concat();
+        let printed = print(&after_blocks(blocks, &numbered(&taken)));
+        assert_eq!(printed.matches("unconfigured").count(), 1);
+        assert!(printed.contains("\nblock 16 unconfigured\n"));
+        let back = [&taken[..], &[[11, 2, 0, 0, 0, 0, 1 << 16]]].concat();
+        let printed = print(&after_blocks(blocks, &numbered(&back)));
+        assert_eq!(printed.matches("unconfigured").count(), 0);
+        // The record field has four bits: none after the sixteenth is good.
+        let sixteen = (0..16).map(|record| settled(record, 4, 0, 16));
+        let sixteen = [&REMOVAL[..], &sixteen.collect::<Vec<Entry>>()].concat();
+        assert!(good(&sixteen[..19], sixteen[19]));
+        for record in 0..16 {
+            assert!(!good(&sixteen, settled(record, 4, 0, 16)));
+            assert!(!good(&sixteen, settled(record, 4, 0, 16 << 6 | 16)));
+        }
+        assert!(good(&sixteen, [16, 2, 0, 0, 0, 1, 9]));
+        // Kind 12 may have any count, as with fewer blocks.
+        assert!(good(&MEMORY, [12, 2, 0, 0, 0, 64, 9]));
     }
 }
 

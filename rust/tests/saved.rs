@@ -162,12 +162,13 @@ fn too_few_damaged_files_are_told() {
     assert!(counts.zeros().contains(&half));
     assert!(!counts
         .zeros()
-        .contains(&"good old file of no entries".to_string()));
+        .contains(&"good old file of no entries, up to 16 blocks".to_string()));
 }
 
 #[test]
 fn what_the_agent_drained_is_good() {
-    for saved in lists(9, 5_000) {
+    let mut old_of_more = 0;
+    for saved in lists(9, 20_000) {
         let shown = output_of(&saved.bytes());
         let last = format!("\nentries {}\n", saved.entries.len());
         assert!(shown.ends_with(&last), "{shown}");
@@ -176,6 +177,7 @@ fn what_the_agent_drained_is_good() {
         let Some(old) = saved.to_old() else {
             continue;
         };
+        old_of_more += usize::from(old.blocks() > 16);
         let mut new = saved.clone();
         new.entries.truncate(old.entries.len() + 1);
         let lines = |text: &str| -> Vec<String> {
@@ -187,6 +189,64 @@ fn what_the_agent_drained_is_good() {
             lines(&output_of(&new.bytes()))
         );
     }
+    assert!(old_of_more > 0);
+}
+
+/// Each case of an old journal of 17 to 64 blocks is asked for, and a count.
+#[test]
+fn journals_of_many_blocks_without_a_mark_are_counted() {
+    let zeros = Counts::default().zeros();
+    for name in [
+        "bad old of 17 to 64 blocks, cut in the first entry",
+        "bad old of 17 to 64 blocks, from number 2 on",
+        "bad old of 17 to 64 blocks, from a later number on",
+        "bad old of 17 to 64 blocks, first entry bad otherwise",
+        "bad old of 17 to 64 blocks, a later entry bad",
+        "bad old of 17 to 64 blocks, kind 11 block not listed",
+        "bad old of 17 to 64 blocks, kind 15 block not listed",
+        "bad old of 17 to 64 blocks, kind 15 past the last record",
+        "good old file of no entries, 17 to 64 blocks",
+        "good old file of 17 to 63 blocks",
+        "good old file of 64 blocks",
+        "good old kind 11 of a block from 16 on",
+        "good old kind 11 of 64 blocks",
+        "good old kind 15 of a block from 16 on",
+    ] {
+        assert!(zeros.contains(&name.to_string()), "{name}");
+    }
+}
+
+/// A reader that follows an earlier rule, `bad blocks` for over 16 blocks
+/// without a mark, is found out.
+#[test]
+fn a_reader_that_refuses_old_journals_of_many_blocks_differs() {
+    let script = r#"saved=$(mktemp)
+trap 'rm -f "$saved"' EXIT
+cat > "$saved"
+count=$(od -An -tu1 -N8 "$saved" | awk '{ print $7 * 256 + $8 }')
+kind=$(od -An -tu1 -j$((8 + 8 * ${count:-0} + 4)) -N1 "$saved" 2> /dev/null)
+if [ "${count:-0}" -gt 80 ] && [ "$((${kind:-0} >> 3))" -ne 31 ]; then
+    echo 'bad blocks'
+    exit 1
+fi
+exec "$reader" "$@" < "$saved""#;
+    let output = compare_script("independent-sixteen", script, "47");
+    assert_eq!(output.status.code(), Some(1));
+    let text = text(&output);
+    assert!(
+        text.contains(
+            "/independent-sixteen: bad blocks
+"
+        ),
+        "{text}"
+    );
+    let kept = take_kept(&text);
+    assert!(kept[..6] == [0; 6] && kept[6..8] > [0, 80][..]);
+    assert_ne!(
+        output_of(&kept),
+        "bad blocks
+"
+    );
 }
 
 /// A line with the number of the entry in place of its handle.

@@ -65,7 +65,8 @@ impl Comparison {
     /// Compares the outputs for a file, without and with the lines of entries.
     fn file(&self, number: u64, file: &File, counts: &mut Counts) -> io::Result<()> {
         let mut lines = Vec::new();
-        let verdict = read_entries(file.bytes.as_slice(), &mut lines)?;
+        let verdict = read_entries(file.bytes.as_slice(), &mut lines);
+        let verdict = verdict.expect("neither bytes nor a vector fails");
         let shown = output(&verdict);
         let all = [lines.as_slice(), &shown].concat();
         for (option, ours) in [(None, shown), (Some("--entries"), all)] {

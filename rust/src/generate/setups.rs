@@ -105,13 +105,6 @@ pub fn good(random: &mut Random) -> Vec<u64> {
     words(&drafts(random, count))
 }
 
-/// A list of 17 to 64 blocks that setup accepts.
-pub fn good_of_more(random: &mut Random) -> Vec<u64> {
-    let any = random.between(17, 64);
-    let count = random.pick(&[17, any, any, 64]);
-    words(&drafts(random, count))
-}
-
 /// A list that breaks a single rule at a random block, or is no whole list.
 pub fn bad(random: &mut Random) -> Vec<u64> {
     let any = random.between(1, 16);

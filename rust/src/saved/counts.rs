@@ -1,6 +1,7 @@
 //! What saved files reached.
 
-use super::damage::Damage;
+use super::damage::{Damage, Unmarked};
+use super::list::OLD_BLOCKS;
 use super::wordings::{wording, wordings, MARK};
 use super::File;
 use crate::block::Blocks;
@@ -32,15 +33,23 @@ const GROWN: [&str; 3] = [
 /// Data refused under a handle that is registered but for its top bit.
 const BARE: &str = "kind  9 of a registered handle but for its top bit";
 
-/// What only a new journal can say.
-const MORE: [&str; 7] = [
+/// What no agent of 01 wrote: journals of more than 16 blocks, of each edition.
+const MORE: [&str; 6] = [
     "file of 17 to 63 blocks",
     "file of 64 blocks",
     "kind 11 of a block from 16 on",
     "kind 11 of 64 blocks",
     "kind 12 of 17 to 64 records",
     "kind 15 of a block from 16 on",
-    "kind 15 of a record from 16 on",
+];
+
+/// What only a new journal can say.
+const NEW: &str = "kind 15 of a record from 16 on";
+
+/// What only an old journal can be: one without an entry has no mark.
+const EMPTY: [&str; 2] = [
+    "file of no entries, up to 16 blocks",
+    "file of no entries, 17 to 64 blocks",
 ];
 
 /// What chooses the words of a line that does not tell it: each value of these
@@ -146,9 +155,10 @@ fn good_names(edition: Edition) -> Vec<String> {
     names.extend((0..SERVICES).map(|service| format!("kind 10 of service {service}")));
     names.extend(choosing_names());
     names.extend([BARE, "file", "file of 16 blocks"].map(String::from));
+    names.extend(MORE.map(String::from));
     match edition {
-        Edition::Old => names.push("file of no entries".into()),
-        Edition::New => names.extend(MORE.map(String::from)),
+        Edition::Old => names.extend(EMPTY.map(String::from)),
+        Edition::New => names.push(NEW.into()),
     }
     let names = names.iter();
     names.map(|name| format!("good {edition} {name}")).collect()
@@ -174,13 +184,13 @@ impl Default for Counts {
     }
 }
 
-/// What an entry says that only a new journal can, by its place in `MORE`.
+/// What an entry says of blocks, or of records, from 16 on.
 fn more(edition: Edition, first: u64, second: u64) -> Vec<&'static str> {
     let (record, block) = edition.settled(first, second);
     let tests = match KIND.of(first) {
         11 => [(second >> 16 != 0, MORE[2]), (second == u64::MAX, MORE[3])],
         12 => [((17..=64).contains(&COUNT.of(first)), MORE[4]), (false, "")],
-        15 => [(block > 15, MORE[5]), (record > 15, MORE[6])],
+        15 => [(block > 15, MORE[5]), (record > 15, NEW)],
         _ => return Vec::new(),
     };
     let met = tests.iter().filter(|(met, _)| *met);
@@ -208,7 +218,12 @@ impl Counts {
         self.lines(verdict, lines);
         match verdict {
             Ok(reading) => self.good(&file.bytes, reading),
-            Err(bad) => self.add(format!("bad {}", Damage::of(bad))),
+            Err(bad) => {
+                self.add(format!("bad {}", Damage::of(bad)));
+                if let Some(unmarked) = Unmarked::of(&file.bytes, bad) {
+                    self.add(format!("bad {unmarked}"));
+                }
+            }
         }
     }
 
@@ -219,7 +234,8 @@ impl Counts {
         let entries = entries_of(file);
         self.add(format!("good {edition} file"));
         if entries.len() == 0 {
-            self.add(format!("good {edition} file of no entries"));
+            let name = EMPTY[usize::from(reading.blocks.count > OLD_BLOCKS)];
+            self.add(format!("good {edition} {name}"));
         }
         let blocks = match reading.blocks.count {
             ..=15 => "up to 15",

@@ -1,13 +1,14 @@
 //! Files that are bad in one place, for each test of the reader.
 
 use super::entries::entry;
-use super::list::{kind_of, verdict, Saved};
+use super::list::{kind_of, verdict, Saved, OLD_BLOCKS};
 use crate::block::{BLOCK_WORDS, MAX_BLOCKS};
 use crate::entry::{EDITION, KIND, NUMBER};
 use crate::generate::random::Random;
 use crate::generate::setups;
 use crate::reader::fields::{named, unnamed, Field, KINDS};
-use crate::reader::{Bad, Beginning, Edition, Fault, ListFault, Need, ENTRY, WORD};
+use crate::reader::{Bad, Edition, Fault, ListFault, Need, ENTRY, WORD};
+use crate::wire::get64;
 use std::fmt::{self, Display, Formatter};
 
 /// What is bad in a file, wherever it stands.
@@ -15,6 +16,27 @@ use std::fmt::{self, Display, Formatter};
 pub enum Damage {
     List(ListFault),
     Entry(Edition, Fault),
+    Unmarked(Unmarked),
+}
+
+/// What is bad in a journal of 17 to 64 blocks that has no mark, and so is read
+/// by the rules of the old edition.
+#[derive(Clone, Copy, Debug, PartialEq, Eq, PartialOrd, Ord)]
+pub enum Unmarked {
+    /// There is no whole entry, but a part of one.
+    CutFirst,
+    /// The first entry has number 2: the mark alone is lost.
+    FromTwo,
+    /// The first entry has a higher number: more than the mark is lost.
+    FromLater,
+    /// The first entry is bad for another reason.
+    FirstBad,
+    /// An entry after the first is bad.
+    LaterBad,
+    /// An entry of this kind has a block that is not listed.
+    Block(usize),
+    /// A record is past the last that an old entry can say.
+    NoRecord,
 }
 
 /// What each kind needs, as the ticket says.
@@ -47,48 +69,92 @@ impl Damage {
             ListFault::ListCut,
             ListFault::BreaksRule,
         ];
-        let before_old = BEGINNINGS.map(ListFault::TooManyForOld);
         let counts = (0..WORD).map(ListFault::CountCut);
-        let lists = lists.into_iter().chain(before_old).chain(counts);
+        let lists = lists.into_iter().chain(counts);
         let entries = Edition::ALL.into_iter().flat_map(|edition| {
             let faults = faults(edition).into_iter();
             faults.map(move |fault| Damage::Entry(edition, fault))
         });
-        lists.map(Damage::List).chain(entries).collect()
+        let unmarked = Unmarked::ALL.map(Damage::Unmarked);
+        let lists = lists.map(Damage::List);
+        lists.chain(entries).chain(unmarked).collect()
     }
 
     /// The edition of the file that it is made of; either will do for a list.
     pub fn edition(self) -> Option<Edition> {
         match self {
-            Damage::List(ListFault::TooManyForOld(_)) => Some(Edition::Old),
             Damage::List(_) => None,
             Damage::Entry(edition, _) => Some(edition),
+            Damage::Unmarked(unmarked) => Some(unmarked.made_of()),
         }
     }
 
     /// Damages a good file so, if a place for it was found.
     pub fn make(self, random: &mut Random, good: &Saved) -> Option<Vec<u8>> {
         let bytes = match self {
-            Damage::List(fault) => damage_list(random, good, fault)?,
-            Damage::Entry(_, Fault::Cut(length)) => {
-                let place = any_place(random, good)? as u64;
-                let start = good.bytes().len() - good.entries.len() * ENTRY;
-                cut(good, start + place as usize * ENTRY + length)
-            }
-            Damage::Entry(_, fault) => damage_entry(random, good, fault)?.bytes(),
+            Damage::List(fault) => damage_list(random, good, fault),
+            Damage::Entry(_, fault) => damage_entry(random, good, fault)?,
+            Damage::Unmarked(unmarked) => damage_unmarked(random, good, unmarked)?,
         };
-        let made = verdict(&bytes).err().map(|bad| Damage::of(&bad));
+        let bad = verdict(&bytes).err()?;
+        let made = match self {
+            Damage::Unmarked(_) => Unmarked::of(&bytes, &bad).map(Damage::Unmarked),
+            _ => Some(Damage::of(&bad)),
+        };
         (made == Some(self)).then_some(bytes)
     }
 }
 
-/// What an old journal may begin with.
-const BEGINNINGS: [Beginning; 4] = [
-    Beginning::NoEntry,
-    Beginning::CutEntry,
-    Beginning::GoodEntry,
-    Beginning::BadEntry,
-];
+impl Unmarked {
+    const ALL: [Unmarked; 8] = [
+        Unmarked::CutFirst,
+        Unmarked::FromTwo,
+        Unmarked::FromLater,
+        Unmarked::FirstBad,
+        Unmarked::LaterBad,
+        Unmarked::Block(11),
+        Unmarked::Block(15),
+        Unmarked::NoRecord,
+    ];
+
+    /// What a bad file has of these, if it is such a journal.
+    pub fn of(file: &[u8], bad: &Bad) -> Option<Unmarked> {
+        let Bad::Entry {
+            edition: Edition::Old,
+            place,
+            fault,
+        } = *bad
+        else {
+            return None;
+        };
+        let words = get64(file, 0) as usize;
+        if words <= OLD_BLOCKS * BLOCK_WORDS {
+            return None;
+        }
+        Some(match (place, fault) {
+            (_, Fault::Block(kind)) => Unmarked::Block(kind),
+            (_, Fault::NoRecord) => Unmarked::NoRecord,
+            (1, Fault::Cut(_)) => Unmarked::CutFirst,
+            (1, Fault::Number) => match NUMBER.of(get64(file, WORD + words * WORD)) {
+                0 => Unmarked::FirstBad,
+                2 => Unmarked::FromTwo,
+                _ => Unmarked::FromLater,
+            },
+            (1, _) => Unmarked::FirstBad,
+            _ => Unmarked::LaterBad,
+        })
+    }
+
+    /// The edition of the good file that is damaged: a new one loses its mark.
+    fn made_of(self) -> Edition {
+        match self {
+            Unmarked::CutFirst | Unmarked::FromTwo | Unmarked::FromLater | Unmarked::FirstBad => {
+                Edition::New
+            }
+            Unmarked::LaterBad | Unmarked::Block(_) | Unmarked::NoRecord => Edition::Old,
+        }
+    }
+}
 
 /// Every fault that an entry can have in an edition.
 fn faults(edition: Edition) -> Vec<Fault> {
@@ -128,9 +194,6 @@ impl Display for ListFault {
             ListFault::NotWholeBlocks => write!(text, "list not of whole blocks"),
             ListFault::ListCut => write!(text, "list cut"),
             ListFault::BreaksRule => write!(text, "list that breaks a rule"),
-            ListFault::TooManyForOld(beginning) => {
-                write!(text, "list too long for an old journal, {beginning:?}")
-            }
         }
     }
 }
@@ -152,11 +215,27 @@ impl Display for Fault {
     }
 }
 
+impl Display for Unmarked {
+    fn fmt(&self, text: &mut Formatter) -> fmt::Result {
+        text.write_str("old of 17 to 64 blocks, ")?;
+        match self {
+            Unmarked::CutFirst => write!(text, "cut in the first entry"),
+            Unmarked::FromTwo => write!(text, "from number 2 on"),
+            Unmarked::FromLater => write!(text, "from a later number on"),
+            Unmarked::FirstBad => write!(text, "first entry bad otherwise"),
+            Unmarked::LaterBad => write!(text, "a later entry bad"),
+            Unmarked::Block(kind) => write!(text, "{}", Fault::Block(*kind)),
+            Unmarked::NoRecord => write!(text, "{}", Fault::NoRecord),
+        }
+    }
+}
+
 impl Display for Damage {
     fn fmt(&self, text: &mut Formatter) -> fmt::Result {
         match self {
             Damage::List(fault) => write!(text, "{fault}"),
             Damage::Entry(edition, fault) => write!(text, "{edition} {fault}"),
+            Damage::Unmarked(unmarked) => write!(text, "{unmarked}"),
         }
     }
 }
@@ -181,40 +260,48 @@ fn with_count(saved: &Saved, count: u64) -> Vec<u8> {
     bytes
 }
 
-/// The old journal after a list of 17 to 64 blocks.
-fn before_old(random: &mut Random, good: &Saved, beginning: Beginning) -> Option<Vec<u8>> {
+/// Damages a good file of 17 to 64 blocks so, if it has as many.
+fn damage_unmarked(random: &mut Random, good: &Saved, unmarked: Unmarked) -> Option<Vec<u8>> {
+    if good.blocks() <= OLD_BLOCKS {
+        return None;
+    }
     let mut saved = good.clone();
-    saved.words = setups::good_of_more(random);
-    let start = WORD + saved.words.len() * WORD;
-    Some(match beginning {
-        Beginning::NoEntry => cut(&saved, start),
-        Beginning::CutEntry => {
-            if random.once_in(3) {
-                // A mark that is cut is no whole entry.
-                saved.entries = vec![[NUMBER.word(1) | KIND.word(EDITION), 0]];
-            }
-            cut(&saved, start + random.between(1, ENTRY as u64 - 1) as usize)
+    match unmarked {
+        Unmarked::CutFirst => {
+            let length = random.between(1, ENTRY as u64 - 1);
+            return Some(cut(good, good.start() + length as usize));
         }
-        Beginning::GoodEntry => saved.bytes(),
-        Beginning::BadEntry => {
-            let first = saved.entries.first_mut()?;
-            match random.below(4) {
-                0 => first[0] ^= NUMBER.word(random.between(1, NUMBER.most())),
-                1 => first[0] = NUMBER.word(1) | KIND.word(random.pick(&[0, 4, 15, 25, 30])),
-                2 => first[0] |= Field::Record.words(random.between(1, 15))[0],
-                _ => *first = [random.next(), random.next()],
-            }
-            saved.bytes()
+        Unmarked::FromTwo => {
+            saved.entries.remove(0);
         }
-    })
+        Unmarked::FromLater => {
+            let last = good.entries.len().checked_sub(1)?;
+            let lost = random.between(2.min(last as u64), last as u64);
+            saved.entries.drain(..lost as usize);
+        }
+        Unmarked::FirstBad => {
+            let [first, second] = saved.entries.first_mut()?;
+            match random.below(3) {
+                0 => *first ^= KIND.word(random.between(1, KIND.most())),
+                1 => *first ^= NUMBER.word(1) | KIND.word(1),
+                _ => (*first, *second) = (random.next(), random.next()),
+            }
+        }
+        Unmarked::LaterBad => {
+            let fault = random.pick(&faults(Edition::Old));
+            return damage_entry(random, good, fault);
+        }
+        Unmarked::Block(kind) => return damage_entry(random, good, Fault::Block(kind)),
+        Unmarked::NoRecord => return damage_entry(random, good, Fault::NoRecord),
+    }
+    Some(saved.bytes())
 }
 
-fn damage_list(random: &mut Random, good: &Saved, fault: ListFault) -> Option<Vec<u8>> {
+fn damage_list(random: &mut Random, good: &Saved, fault: ListFault) -> Vec<u8> {
     let most = (MAX_BLOCKS * BLOCK_WORDS) as u64;
     let count = good.words.len() as u64;
-    Some(match fault {
+    match fault {
         ListFault::CountCut(length) => cut(good, length),
-        ListFault::TooManyForOld(beginning) => before_old(random, good, beginning)?,
         ListFault::TooManyWords => {
             // Some of them agree with a good count in fewer bits, or in bytes.
             let high = random.pick(&[1 << 8, 1 << 16, 1 << 32, 1 << 61, 1 << 63]);
@@ -233,30 +320,37 @@ fn damage_list(random: &mut Random, good: &Saved, fault: ListFault) -> Option<Ve
             saved.words = setups::bad(random);
             saved.bytes()
         }
-    })
+    }
 }
 
-/// Changes an entry, or adds one, so that it has this fault.
-fn damage_entry(random: &mut Random, good: &Saved, fault: Fault) -> Option<Saved> {
-    match fault {
-        Fault::Number => damage_number(random, good),
-        Fault::Kind(kind) => {
-            let mut saved = good.clone();
+/// Changes or cuts an entry, or adds one, so that it has this fault.
+fn damage_entry(random: &mut Random, good: &Saved, fault: Fault) -> Option<Vec<u8>> {
+    let saved = match fault {
+        Fault::Number => damage_number(random, good)?,
+        Fault::Kind(kind) => damage_kind(random, good, kind)?,
+        Fault::Unnamed(kind, field) => damage_unnamed(random, good, kind, field)?,
+        Fault::Need(kind, _) | Fault::Block(kind) => add_bad(random, good, kind, fault)?,
+        Fault::Record | Fault::Moved | Fault::Collected => add_bad(random, good, 15, fault)?,
+        Fault::NoRecord => add_past_last(random, good)?,
+        Fault::Cut(length) => {
             let place = any_place(random, good)?;
-            let [first, second] = saved.entries[place];
-            let number = NUMBER.word(place as u64 + 1) | KIND.word(kind as u64);
-            saved.entries[place] = match random.once_in(2) {
-                true => [number, 0],
-                false => [first ^ KIND.word(KIND.of(first)) | number, second],
-            };
-            Some(saved)
+            return Some(cut(good, good.start() + place * ENTRY + length));
         }
-        Fault::Unnamed(kind, field) => damage_unnamed(random, good, kind, field),
-        Fault::Need(kind, _) | Fault::Block(kind) => add_bad(random, good, kind, fault),
-        Fault::Record | Fault::Moved | Fault::Collected => add_bad(random, good, 15, fault),
-        Fault::NoRecord => add_past_last(random, good),
-        Fault::Cut(_) => None,
-    }
+    };
+    Some(saved.bytes())
+}
+
+/// Gives an entry this kind, which is unknown there.
+fn damage_kind(random: &mut Random, good: &Saved, kind: usize) -> Option<Saved> {
+    let mut saved = good.clone();
+    let place = any_place(random, good)?;
+    let [first, second] = saved.entries[place];
+    let number = NUMBER.word(place as u64 + 1) | KIND.word(kind as u64);
+    saved.entries[place] = match random.once_in(2) {
+        true => [number, 0],
+        false => [first ^ KIND.word(KIND.of(first)) | number, second],
+    };
+    Some(saved)
 }
 
 /// An entry left out, twice, changed with its neighbour, or with another

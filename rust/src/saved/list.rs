@@ -5,9 +5,12 @@ use crate::block::BLOCK_WORDS;
 use crate::entry::{KIND, NUMBER};
 use crate::generate::generate;
 use crate::lines::{Call, Host, Line};
-use crate::reader::{read, Edition, Reading, Verdict};
+use crate::reader::{read, Edition, Reading, Verdict, WORD};
 use crate::state::TOP_BIT;
 use crate::Blocks;
+
+/// The most blocks that an agent of 01 had, before ticket 8.
+pub const OLD_BLOCKS: usize = 16;
 
 /// A block list and entries.
 #[derive(Clone, Debug, Default, PartialEq, Eq)]
@@ -48,9 +51,17 @@ impl Saved {
         self.words.len() / BLOCK_WORDS
     }
 
-    /// Whether the list is not too long for the edition.
-    pub fn list_fits(&self) -> bool {
-        self.blocks() <= self.edition().most_blocks()
+    /// Where its entries begin in the bytes.
+    pub fn start(&self) -> usize {
+        WORD + self.words.len() * WORD
+    }
+
+    /// The block list alone.
+    pub fn without_entries(&self) -> Saved {
+        Saved {
+            words: self.words.clone(),
+            entries: Vec::new(),
+        }
     }
 
     /// Leaves so many entries, and at least a mark.
@@ -62,10 +73,10 @@ impl Saved {
     /// The same journal in the old edition: without its mark, all numbers and
     /// the handles that have them one lower, these without the top bit, and
     /// record and block of kind 15 where 01 has them. It ends where a record is
-    /// past what the old edition can say. None if there are too many blocks.
+    /// past what the old edition can say. None if it is old already.
     pub fn to_old(&self) -> Option<Saved> {
         let old = Edition::Old;
-        if self.edition() == old || self.blocks() > old.most_blocks() {
+        if self.edition() == old {
             return None;
         }
         let mut entries = Vec::new();
@@ -161,6 +172,5 @@ pub fn lists(seed: u64, calls: u64) -> Vec<Saved> {
             saved.entries.extend(answer.lines().filter_map(entry));
         }
     }
-    all.retain(Saved::list_fits);
     all
 }

@@ -14,7 +14,7 @@ pub use long::{write_long, MAX_ENTRIES};
 use crate::generate::random::Random;
 use crate::reader::{Edition, ENTRY, PIECE};
 use damage::Damage;
-use list::{lists, Saved};
+use list::{lists, Saved, OLD_BLOCKS};
 
 /// A file, and whether it was damaged.
 #[derive(Clone, Debug, PartialEq, Eq)]
@@ -78,6 +78,12 @@ impl Lists {
     fn new(seed: u64) -> Lists {
         let all = lists(seed, CALLS);
         let mut old: Vec<Saved> = all.iter().filter_map(Saved::to_old).collect();
+        // Few lists have more than 16 blocks: each of these is there three times,
+        // and once as its block list alone.
+        let more = old.iter().filter(|saved| saved.blocks() > OLD_BLOCKS);
+        let more: Vec<Saved> = more.cloned().collect();
+        old.extend(more.iter().map(Saved::without_entries));
+        old.extend([&more[..], &more].concat());
         // Without an entry the edition is old; a part of these will do.
         let (new, empty): (Vec<Saved>, Vec<Saved>) = all
             .into_iter()
