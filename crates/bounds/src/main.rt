@@ -4,6 +4,7 @@ ghost use Prim.Native.Nat.{_<_};
 use calls::answers;
 use calls::answers::RUN_WORDS;
 use calls::answers::Run;
+use lines::outcome::report_failure;
 use lines::output;
 use lines::output::TEXT_BYTES;
 use lines::output::Text;
@@ -1117,5 +1118,9 @@ fn main() {
     refused_setups(&mut text, &mut used);
     accepted_setup(&mut text, &mut used);
     output::flush(&text, &mut used);
-    calls::run();
+    if output::has_failed(used) {
+        report_failure(b"bounds", b"the output cannot be written");
+        return;
+    }
+    calls::run(b"bounds");
 }

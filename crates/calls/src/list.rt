@@ -1,6 +1,5 @@
 // The list of calls on standard input, answered on standard output. Input and output go in pieces of up to 65,536 bytes. Before a setup, and after a refused one, the
 // state is that of empty lists with no entry, which is not sound: each call is refused with 8.
-ghost use Rattle.io.specs.Counts.{Counts};
 use crate::answers;
 use crate::given;
 use crate::given::GIVEN_WORDS;
@@ -11,10 +10,11 @@ use front_model::FRONT_BYTES;
 use front_model::FRONT_WORDS;
 use front_model::FrontBytes;
 use front_model::FrontWords;
-use libc::STDERR_FILENO;
 use libc::STDIN_FILENO;
 use lines::fields;
 use lines::fields::Number;
+use lines::outcome;
+use lines::outcome::report_failure;
 use lines::output;
 use lines::output::TEXT_BYTES;
 use lines::output::Text;
@@ -37,11 +37,12 @@ const MOST_OUTPUT: usize = 4096;
 
 type Journal = [u64; MOST_JOURNAL];
 
-// Where the host stands: the bytes of the line so far (above LONGEST: too long), the lines ended so far, and the words of journal and bytes of
-// output that the calls are lent.
+// Where the host stands: the bytes of the line so far (above LONGEST: too long), the lines ended so far, whether one of them was bad, and the words of
+// journal and bytes of output that the calls are lent.
 struct Place {
     length: usize,
     lines: u64,
+    bad: bool,
     journal: usize,
     output: usize,
 }
@@ -195,6 +196,7 @@ fn answer(
         used,
     ) {
         answers::bad_line(text, used, place.lines);
+        next.bad = true;
     }
     next
 }
@@ -215,8 +217,10 @@ fn answer_line(
         return place;
     }
     if LONGEST < place.length {
+        let mut next = place;
         answers::bad_line(text, used, place.lines);
-        return place;
+        next.bad = true;
+        return next;
     }
     let end = bytes_within(place.length, line);
     if fields::is_blank(&line[..end]) {
@@ -323,19 +327,20 @@ fn take_piece(
     next
 }
 
-// One read of standard input: the count of bytes, 0 at its end and where it cannot be read.
-fn read(input: &mut [u8]) -> usize
-    ensures { λ r. ⌜ Counts r (now (input .exit)) ⌝ }
-{
-    let got = libc::read(STDIN_FILENO, input);
-    if got < 0 {
-        io::write_all(STDERR_FILENO, b"the input cannot be read\n");
+// How the list ended: the output was written, and no line was bad.
+fn outcome_of(program: &[u8], bad: bool, used: usize) -> u8 {
+    if output::has_failed(used) {
+        return report_failure(program, b"the output cannot be written");
     }
-    io::count(got, input)
+    if bad {
+        return outcome::BAD;
+    }
+    outcome::GOOD
 }
 
-// Answers the list until the input ends. What was read is answered before the next read. The count of reads only lets the loop be proved to end.
-pub fn run() {
+// Answers the list until the input ends, and returns how it ended. What was read is answered before the next read; after a failed read the
+// unfinished line is not run. The count of reads only lets the loop be proved to end.
+pub fn run(program: &[u8]) -> u8 {
     let mut input = [0u8; 65536];
     let mut text = [0u8; TEXT_BYTES];
     let mut line = [0u8; LONGEST];
@@ -348,12 +353,17 @@ pub fn run() {
     let mut place = Place {
         length: 0,
         lines: 0,
+        bad: false,
         journal: JOURNAL_WORDS,
         output: OUTPUT_BYTES,
     };
     let mut reads: u64 = 18446744073709551615;
     while 0 < reads {
-        let count = read(&mut input);
+        let got = libc::read(STDIN_FILENO, &mut input);
+        if got < 0 {
+            return report_failure(program, b"the input cannot be read");
+        }
+        let count = io::count(got, &input);
         if count == 0 {
             break;
         }
@@ -370,9 +380,12 @@ pub fn run() {
             &mut used,
         );
         output::flush(&text, &mut used);
+        if output::has_failed(used) {
+            return report_failure(program, b"the output cannot be written");
+        }
         reads -= 1;
     }
-    end_line(
+    let last = end_line(
         place,
         &line,
         &mut given,
@@ -384,4 +397,5 @@ pub fn run() {
         &mut used,
     );
     output::flush(&text, &mut used);
+    outcome_of(program, last.bad, used)
 }

@@ -7,6 +7,7 @@ use front_model::FrontWords;
 use front_model::MOST_KEPT;
 use front_model::MOST_MESSAGE;
 use front_model::PART_WORDS;
+use lines::outcome::report_failure;
 use lines::output;
 use lines::output::TEXT_BYTES;
 use lines::output::Text;
@@ -291,4 +292,7 @@ fn main() {
     refusals(&mut text, &mut used);
     held(&mut text, &mut used);
     output::flush(&text, &mut used);
+    if output::has_failed(used) {
+        report_failure(b"front_bounds", b"the output cannot be written");
+    }
 }

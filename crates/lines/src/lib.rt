@@ -1,4 +1,5 @@
-// Text of the host program: a line's fields read, and answers gathered and written in large pieces.
+// Text of the programs: a line's fields read, answers gathered and written in large pieces, and how a program ended.
 pub mod fields;
+pub mod outcome;
 pub mod output;
 pub mod parts;

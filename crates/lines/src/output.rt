@@ -1,24 +1,33 @@
-// Text gathered in a lent array, `used` bytes of it so far, and written out when it is full.
+// Text gathered in a lent array, `used` bytes of it so far, and written out when it is full. A `used` above TEXT_BYTES says that a write has failed: nothing is gathered or
+// written after that, and the program that asks `has_failed` reports it once and ends.
 use crate::parts::bytes_within;
-use libc::STDERR_FILENO;
 use libc::STDOUT_FILENO;
 
 pub const TEXT_BYTES: usize = 65536;
 
 pub type Text = [u8; TEXT_BYTES];
 
-// A program of Rattle has no exit status: where the text cannot be written, standard error says so.
-fn write_front(run: &[u8], count: usize) {
+const WRITE_FAILED: usize = TEXT_BYTES + 1;
+
+fn write_front(run: &[u8], count: usize) -> bool {
     let end = bytes_within(count, run);
-    if !io::write_all(STDOUT_FILENO, &run[..end]) {
-        io::write_all(STDERR_FILENO, b"the output cannot be written\n");
-    }
+    io::write_all(STDOUT_FILENO, &run[..end])
+}
+
+pub fn has_failed(used: usize) -> bool {
+    TEXT_BYTES < used
 }
 
 // Writes out what is gathered.
 pub fn flush(text: &Text, used: &mut usize) {
-    write_front(text, *used);
-    *used = 0;
+    if has_failed(*used) {
+        return;
+    }
+    if write_front(text, *used) {
+        *used = 0;
+    } else {
+        *used = WRITE_FAILED;
+    }
 }
 
 pub fn put_byte(text: &mut Text, used: &mut usize, b: u8) {

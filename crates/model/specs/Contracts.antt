@@ -10,11 +10,11 @@ use Rattle.model.specs.declared.Worked.{Worked}
 use Rattle.model.specs.declared.Drained.{Drained}
 use Rattle.model.specs.declared.Started.{Started}
 use Rattle.model.specs.declared.TakenOrder.{TakenOrder}
-use Rattle.model.specs.Blocks.{Lists}
+use Rattle.model.specs.Blocks.{Lists, acceptedBlocks}
 use Rattle.model.specs.Calls.{Action, receive, offer, withdraw, close, work, permit, takeOrder, Call, act, drain, Outcome, outcome, refusalOf, orderTaken, setUp, shown}
 use Rattle.model.specs.Demand3.{Run, Done, after, runs, newRun, entries, Demand3}
 use Rattle.model.specs.Reading.{viewOf}
-use Rattle.model.specs.Replay.{good, checked, editionOf, listKeeps}
+use Rattle.model.specs.Replay.{good, checked}
 use Rattle.model.specs.Repeats.{Repeats}
 use Rattle.model.specs.Ends.{Ends}
 
@@ -131,10 +131,10 @@ OfEveryList P =
     AllMeet (newRun (r .state) j′) ds →
     P l (r .state) j′ ds
 
--- 02, ticket 3: "the entries of every list of demand 3 pass with its block list": drained, then held, their edition takes the block list, they are all good, and show
--- what the last state has
+-- 02, ticket 3: "the entries of every list of demand 3 pass with its block list": the reader takes the block list, and the entries, drained, then held, are
+-- all good and show what the last state has
 pub record Passes (l : Lists) (s j : List ℕ) (ds : List Done) : Type 0 where
-  pub listed : listKeeps (editionOf (entries (runs (newRun s j) ds))) (l .blocks) ≡ true
+  pub listed : acceptedBlocks (l .blocks) ≡ true
   pub checks : checked l (entries (runs (newRun s j) ds)) ≡ good (runs (newRun s j) ds .number) (viewOf (runs (newRun s j) ds .state))
 
 -- What holds of a list of calls: demand 3, and what the tickets claim of the same lists.

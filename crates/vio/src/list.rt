@@ -1,10 +1,9 @@
 // The list of lines on standard input, answered on standard output. Input and output go in pieces of up to 65,536 bytes.
-ghost use Rattle.io.specs.Counts.{Counts};
 use crate::answers;
 use crate::parsed;
-use libc::STDERR_FILENO;
 use libc::STDIN_FILENO;
 use lines::fields;
+use lines::outcome::report_failure;
 use lines::output;
 use lines::output::TEXT_BYTES;
 use lines::output::Text;
@@ -126,18 +125,8 @@ fn take_piece(
     next
 }
 
-// One read of standard input: the count of bytes, 0 at its end and where it cannot be read.
-fn read(input: &mut [u8]) -> usize
-    ensures { λ r. ⌜ Counts r (now (input .exit)) ⌝ }
-{
-    let got = libc::read(STDIN_FILENO, input);
-    if got < 0 {
-        io::write_all(STDERR_FILENO, b"the input cannot be read\n");
-    }
-    io::count(got, input)
-}
-
-// Answers the list until the input ends. What was read is answered before the next read. The count of reads only lets the loop be proved to end.
+// Answers the list until the input ends. What was read is answered before the next read; after a failed read the unfinished line is not run. The count of
+// reads only lets the loop be proved to end.
 pub(crate) fn run() {
     let mut input = [0u8; 65536];
     let mut text = [0u8; TEXT_BYTES];
@@ -151,7 +140,12 @@ pub(crate) fn run() {
     };
     let mut reads: u64 = 18446744073709551615;
     while 0 < reads {
-        let count = read(&mut input);
+        let got = libc::read(STDIN_FILENO, &mut input);
+        if got < 0 {
+            report_failure(b"vio", b"the input cannot be read");
+            return;
+        }
+        let count = io::count(got, &input);
         if count == 0 {
             break;
         }
@@ -165,8 +159,15 @@ pub(crate) fn run() {
             &mut used,
         );
         output::flush(&text, &mut used);
+        if output::has_failed(used) {
+            report_failure(b"vio", b"the output cannot be written");
+            return;
+        }
         reads -= 1;
     }
     end_line(place, &line, &mut zero, &mut one, &mut text, &mut used);
     output::flush(&text, &mut used);
+    if output::has_failed(used) {
+        report_failure(b"vio", b"the output cannot be written");
+    }
 }

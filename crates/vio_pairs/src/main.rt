@@ -1,6 +1,7 @@
 // Every pair of lists of versions over majors 1 to 3 and minors 0 and 1, in every order: the exchange that one end starts with the other, held
 // to what must come of it by a direct definition, the highest major that both hold and the lower of its minors.
 ghost use Prim.Native.Nat.{_≤_};
+use lines::outcome::report_failure;
 use lines::output;
 use lines::output::TEXT_BYTES;
 use lines::output::Text;
@@ -283,4 +284,7 @@ fn main() {
     );
     put_count(&mut text, &mut used, b"differences", counts[DIFFERENCES]);
     output::flush(&text, &mut used);
+    if output::has_failed(used) {
+        report_failure(b"vio_pairs", b"the output cannot be written");
+    }
 }
