@@ -12,7 +12,7 @@ use Rattle.model.specs.Layout.{channelCount}
 use Rattle.model.proofs.Choice.{and-false, and-false-right, pick-false}
 use Rattle.front_model.specs.Front.{Front, Part, dropping, partOf, partsOf}
 use Rattle.front_model.specs.Calls.{all, gives, taking, Pieced, pieceRefused, pieceKept, pieced, Reopened, reopened, Dropped, DroppingStays, ReopenLeaves}
-use Rattle.front_model.specs.Lists.{FrontDone, piecing, reopening, calling, Standing, stands, standsAfter, FrontMeets, AllFrontMeet}
+use Rattle.front_model.specs.Lists.{piecing, reopening, calling, Standing, stands, standsAfter, FrontMeets, AllFrontMeet}
 use Rattle.front_model.specs.Cutting.{NotReopened, givenOn, DroppedUntilReopened}
 use Rattle.front_model.proofs.Parts.{part-at, part-of, set-same}
 use Rattle.front_model.proofs.Pieces.{Way, refuses, keeping, giving, refusing, way}

@@ -20,12 +20,6 @@ returns-3 c = refute _ (λ t. let r = block-rules _ _ t .0 in omega arith)
 returns-4 : tie.Need-returns-4
 returns-4 c = refute _ (λ t. let r = block-rules _ _ t .0 in omega arith)
 
-mul-if5 : tie.Need-mul-if5
-mul-if5 c = omega arith
-
-add-if5 : tie.Need-add-if5
-add-if5 c = omega arith
-
 returns-5 : tie.Need-returns-5
 returns-5 c = refute _ (λ t. let r = block-rules _ _ t .0 in omega arith)
 
@@ -46,8 +40,8 @@ block-keeps-spec =
     returns-2
     returns-3
     returns-4
-    mul-if5
-    add-if5
+    (λ c. omega arith)
+    (λ c. omega arith)
     returns-5
     returns-6
     permanent-keeps-requires

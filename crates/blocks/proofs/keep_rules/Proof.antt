@@ -23,54 +23,6 @@ loop-holds : tie.Need-loop-holds Inv-loop μ-loop
 unfolding endBefore
 loop-holds c = (omega arith, refl, every-none _)
 
-mul-b : tie.Need-mul-b Inv-loop μ-loop
-mul-b c = omega arith
-
-add-b : tie.Need-add-b Inv-loop μ-loop
-add-b c = omega arith
-
-mul-base : tie.Need-mul-base Inv-loop μ-loop
-mul-base c = omega arith
-
-shared-slice-read-base : tie.Need-shared-slice-read-base Inv-loop μ-loop
-shared-slice-read-base c = omega arith
-
-add-pages : tie.Need-add-pages Inv-loop μ-loop
-add-pages c = omega arith
-
-mul-pages : tie.Need-mul-pages Inv-loop μ-loop
-mul-pages c = omega arith
-
-shared-slice-read-pages : tie.Need-shared-slice-read-pages Inv-loop μ-loop
-shared-slice-read-pages c = omega arith
-
-add-block-keeps : tie.Need-add-block-keeps Inv-loop μ-loop
-add-block-keeps c = omega arith
-
-mul-block-keeps : tie.Need-mul-block-keeps Inv-loop μ-loop
-mul-block-keeps c = omega arith
-
-shared-slice-read-block-keeps : tie.Need-shared-slice-read-block-keeps Inv-loop μ-loop
-shared-slice-read-block-keeps c = omega arith
-
-add-block-keeps-2 : tie.Need-add-block-keeps-2 Inv-loop μ-loop
-add-block-keeps-2 c = omega arith
-
-mul-block-keeps-2 : tie.Need-mul-block-keeps-2 Inv-loop μ-loop
-mul-block-keeps-2 c = omega arith
-
-shared-slice-read-block-keeps-2 : tie.Need-shared-slice-read-block-keeps-2 Inv-loop μ-loop
-shared-slice-read-block-keeps-2 c = omega arith
-
-add-block-keeps-3 : tie.Need-add-block-keeps-3 Inv-loop μ-loop
-add-block-keeps-3 c = omega arith
-
-mul-block-keeps-3 : tie.Need-mul-block-keeps-3 Inv-loop μ-loop
-mul-block-keeps-3 c = omega arith
-
-shared-slice-read-block-keeps-3 : tie.Need-shared-slice-read-block-keeps-3 Inv-loop μ-loop
-shared-slice-read-block-keeps-3 c = omega arith
-
 block-keeps-requires : tie.Need-block-keeps-requires Inv-loop μ-loop
 block-keeps-requires c κs = tt
 
@@ -86,12 +38,6 @@ mul-floor c = let r = block-rules _ _ (yes _ (c .before .block-keeps .ensures) (
 
 add-floor : tie.Need-add-floor Inv-loop μ-loop
 add-floor c = let r = block-rules _ _ (yes _ (c .before .block-keeps .ensures) (c .if1 .left)) .0 in omega arith
-
-add-i : tie.Need-add-i Inv-loop μ-loop
-add-i c = omega arith
-
-loop-less : tie.Need-loop-less Inv-loop μ-loop
-loop-less c = omega arith
 
 loop-again : tie.Need-loop-again Inv-loop μ-loop
 unfolding blockIn endBefore
@@ -112,27 +58,27 @@ keep-rules-spec =
     Inv-loop
     μ-loop
     loop-holds
-    mul-b
-    add-b
-    mul-base
-    shared-slice-read-base
-    add-pages
-    mul-pages
-    shared-slice-read-pages
-    add-block-keeps
-    mul-block-keeps
-    shared-slice-read-block-keeps
-    add-block-keeps-2
-    mul-block-keeps-2
-    shared-slice-read-block-keeps-2
-    add-block-keeps-3
-    mul-block-keeps-3
-    shared-slice-read-block-keeps-3
+    (λ c. omega arith)
+    (λ c. omega arith)
+    (λ c. omega arith)
+    (λ c. omega arith)
+    (λ c. omega arith)
+    (λ c. omega arith)
+    (λ c. omega arith)
+    (λ c. omega arith)
+    (λ c. omega arith)
+    (λ c. omega arith)
+    (λ c. omega arith)
+    (λ c. omega arith)
+    (λ c. omega arith)
+    (λ c. omega arith)
+    (λ c. omega arith)
+    (λ c. omega arith)
     block-keeps-requires
     returns
     mul-floor
     add-floor
-    add-i
-    loop-less
+    (λ c. omega arith)
+    (λ c. omega arith)
     loop-again
     returns-2)

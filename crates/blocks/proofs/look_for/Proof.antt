@@ -23,47 +23,14 @@ has-room c =
     let l = c .before .loop in
     room _ _ _ (l .looked) (l .count) (l .low) (l .left) (omega arith) (l .inv .3) (c .before .before .before .pre .few) (omega arith)
 
-element-copy-out-left : tie.Need-element-copy-out-left Inv-loop μ-loop
-element-copy-out-left c = omega arith
-
 loop-holds : tie.Need-loop-holds Inv-loop μ-loop
 loop-holds c = (omega arith, refl, omega arith, going-first _ _ _)
-
-sub-below : tie.Need-sub-below Inv-loop μ-loop
-sub-below c = omega arith
-
-add-middle : tie.Need-add-middle Inv-loop μ-loop
-add-middle c = omega arith
 
 mul-looked : tie.Need-mul-looked Inv-loop μ-loop
 mul-looked c = omega (arith, has-room c)
 
 array-write-looked : tie.Need-array-write-looked Inv-loop μ-loop
 array-write-looked c = has-room c
-
-add-count : tie.Need-add-count Inv-loop μ-loop
-add-count c = omega arith
-
-mul-b : tie.Need-mul-b Inv-loop μ-loop
-mul-b c = omega arith
-
-add-b : tie.Need-add-b Inv-loop μ-loop
-add-b c = omega arith
-
-mul-base : tie.Need-mul-base Inv-loop μ-loop
-mul-base c = omega arith
-
-element-copy-out-base : tie.Need-element-copy-out-base Inv-loop μ-loop
-element-copy-out-base c = omega arith
-
-add-found-at : tie.Need-add-found-at Inv-loop μ-loop
-add-found-at c = omega arith
-
-mul-found-at : tie.Need-mul-found-at Inv-loop μ-loop
-mul-found-at c = omega arith
-
-element-copy-out-found-at : tie.Need-element-copy-out-found-at Inv-loop μ-loop
-element-copy-out-found-at c = omega arith
 
 found-at-requires : tie.Need-found-at-requires Inv-loop μ-loop
 unfolding blockIn
@@ -77,21 +44,12 @@ returns c =
     let l = b .before .before in
     tells-here _ _ _ _ _ _ _ (omega arith) (l .before .loop .inv .3) (omega (arith, has-room l)) (b .if1 .taken) (c .found-at .ensures)
 
-add-low : tie.Need-add-low Inv-loop μ-loop
-add-low c = omega arith
-
-loop-less : tie.Need-loop-less Inv-loop μ-loop
-loop-less c = omega arith
-
 loop-again : tie.Need-loop-again Inv-loop μ-loop
 unfolding blockIn
 loop-again c =
     let fits = has-room (c .before .before .before) in
     let l = c .before .before .before .before .loop in
     (omega arith, rw length-set (l .inv .1), omega arith, going-above _ _ _ (l .looked) (l .count) (l .low) (l .left) (omega arith) (l .inv .3) (omega arith) (c .if2 .taken))
-
-loop-less-2 : tie.Need-loop-less-2 Inv-loop μ-loop
-loop-less-2 c = omega arith
 
 loop-again-2 : tie.Need-loop-again-2 Inv-loop μ-loop
 unfolding blockIn
@@ -111,25 +69,25 @@ look-for-spec =
     (tie.spec
     Inv-loop
     μ-loop
-    element-copy-out-left
+    (λ c. omega arith)
     loop-holds
-    sub-below
-    add-middle
+    (λ c. omega arith)
+    (λ c. omega arith)
     mul-looked
     array-write-looked
-    add-count
-    mul-b
-    add-b
-    mul-base
-    element-copy-out-base
-    add-found-at
-    mul-found-at
-    element-copy-out-found-at
+    (λ c. omega arith)
+    (λ c. omega arith)
+    (λ c. omega arith)
+    (λ c. omega arith)
+    (λ c. omega arith)
+    (λ c. omega arith)
+    (λ c. omega arith)
+    (λ c. omega arith)
     found-at-requires
     returns
-    add-low
-    loop-less
+    (λ c. omega arith)
+    (λ c. omega arith)
     loop-again
-    loop-less-2
+    (λ c. omega arith)
     loop-again-2
     returns-2)

@@ -7,9 +7,6 @@ use Rattle.blocks.proofs.Rules.{blocks-rules, blocks-last}
 use Rattle.blocks.proofs.state_blocks_keep.Statement.{statement}
 use Rattle.blocks.proofs.state_blocks_keep.Tie as tie
 
-element-copy-out-n : tie.Need-element-copy-out-n
-element-copy-out-n c = omega arith
-
 returns : tie.Need-returns
 returns c = refute _ (λ t. let r = blocks-rules _ _ _ t in omega arith)
 
@@ -21,4 +18,4 @@ returns-2 c = c .keep-rules .ensures ∙ sym (blocks-last _ _ _ (omega arith))
 
 pub state-blocks-keep-spec : {M : Type 1} → statement M
 state-blocks-keep-spec =
-    tie.close (tie.spec element-copy-out-n returns keep-rules-requires returns-2)
+    tie.close (tie.spec (λ c. omega arith) returns keep-rules-requires returns-2)

@@ -3,11 +3,8 @@ use borrow.Author.Needs.{needs}
 use Rattle.configuration.proofs.bit.Statement.{statement}
 use Rattle.configuration.proofs.bit.Tie as tie
 
-shl-result : tie.Need-shl-result
-shl-result c = search needs
-
 returns : tie.Need-returns
 returns c = bit-is _ (c .pre)
 
 pub bit-spec : {M : Type 1} → statement M
-bit-spec = tie.close (tie.spec shl-result returns)
+bit-spec = tie.close (tie.spec (λ c. search needs) returns)

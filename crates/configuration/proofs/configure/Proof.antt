@@ -3,18 +3,6 @@ use borrow.Author.Needs.{needs}
 use Rattle.configuration.proofs.configure.Statement.{statement}
 use Rattle.configuration.proofs.configure.Tie as tie
 
-put-results-header-requires : tie.Need-put-results-header-requires
-put-results-header-requires c κs = search needs
-
-configure-all-requires : tie.Need-configure-all-requires
-configure-all-requires c κs = search needs
-
-answered-requires : tie.Need-answered-requires
-answered-requires c κs = search needs
-
-same-length : tie.Need-same-length
-same-length c = search needs
-
 abbrev headed : tie.After-configure-all → tie.After-put-results-header
 headed c = c .before .before .before .before .before
 
@@ -24,12 +12,6 @@ entered c = c .before .before .before .before
 returns : tie.Need-returns
 returns c = let k = c .before .before .before .before in let h = headed k in let p = entered h .pre in configure-none _ _ _ _ _ _ _ (p .1) (p .3) (h .put-results-header .ensures) (k .configure-all .ensures) (c .before .if1 .taken) (c .answered .ensures)
 
-configured-requires : tie.Need-configured-requires
-configured-requires c κs = search needs
-
-same-length-2 : tie.Need-same-length-2
-same-length-2 c = search needs
-
 returns-2 : tie.Need-returns-2
 returns-2 c = let k = c .before .before .before .before in let h = headed k in let p = entered h .pre in configure-some _ _ _ _ _ _ _ (p .1) (p .3) (h .put-results-header .ensures) (k .configure-all .ensures) (c .before .if1 .left) (c .configured .ensures)
 
@@ -37,11 +19,11 @@ pub configure-spec : {M : Type 1} → statement M
 configure-spec =
     tie.close
     (tie.spec
-    put-results-header-requires
-    configure-all-requires
-    answered-requires
-    same-length
+    (λ c κs. search needs)
+    (λ c κs. search needs)
+    (λ c κs. search needs)
+    (λ c. search needs)
     returns
-    configured-requires
-    same-length-2
+    (λ c κs. search needs)
+    (λ c. search needs)
     returns-2)

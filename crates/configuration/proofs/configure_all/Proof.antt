@@ -18,12 +18,6 @@ word-count-requires c κs = tt
 loop-holds : tie.Need-loop-holds Inv-loop μ-loop
 loop-holds c = (omega arith, refl, passed-none _ _ _ (c .word-count .ensures .1) (c .before .before .before .before .pre .2))
 
-address-requires : tie.Need-address-requires Inv-loop μ-loop
-address-requires c κs = omega arith
-
-size-requires : tie.Need-size-requires Inv-loop μ-loop
-size-requires c κs = omega arith
-
 configure-one-requires : tie.Need-configure-one-requires Inv-loop μ-loop
 configure-one-requires c κs = let p = c .before .before .before .before .loop .inv .2 in (p .blocks, p .size)
 
@@ -38,12 +32,6 @@ add-mask c =
     let k = c .before .before .before .before .before .before in
     let l = k .before .before .before .before .before in
     omega (arith, mask-fits _ _ _ _ (l .loop .inv .2) (k .before .before .before .address .ensures) (k .before .before .size .ensures) (k .configure-one .ensures))
-
-add-i : tie.Need-add-i Inv-loop μ-loop
-add-i c = omega arith
-
-loop-less : tie.Need-loop-less Inv-loop μ-loop
-loop-less c = omega arith
 
 loop-again : tie.Need-loop-again Inv-loop μ-loop
 loop-again c =
@@ -66,13 +54,13 @@ configure-all-spec =
     μ-loop
     word-count-requires
     loop-holds
-    address-requires
-    size-requires
+    (λ c κs. omega arith)
+    (λ c κs. omega arith)
     configure-one-requires
     put-result-requires
     add-mask
-    add-i
-    loop-less
+    (λ c. omega arith)
+    (λ c. omega arith)
     loop-again
     same-length
     returns)

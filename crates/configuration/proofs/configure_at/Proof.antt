@@ -4,17 +4,8 @@ use borrow.Author.Needs.{needs}
 use Rattle.configuration.proofs.configure_at.Statement.{statement}
 use Rattle.configuration.proofs.configure_at.Tie as tie
 
-configured-of-requires : tie.Need-configured-of-requires
-configured-of-requires c κs = search needs
-
 returns : tie.Need-returns
 returns c = unchanged-at _ _ (λ e. c .if1 .taken (c .before .configured-of .ensures ∙ e))
-
-set-configured-requires : tie.Need-set-configured-requires
-set-configured-requires c κs = search needs
-
-bit-requires : tie.Need-bit-requires
-bit-requires c κs = search needs
 
 returns-2 : tie.Need-returns-2
 returns-2 c = let t = c .before .before .before in let p = t .before .before .before .pre in configured-at _ _ (p .2) (p .1) (p .0) (sym (t .before .configured-of .ensures) ∙ t .if1 .left) (c .before .set-configured .ensures) (c .bit .ensures)
@@ -22,4 +13,4 @@ returns-2 c = let t = c .before .before .before in let p = t .before .before .be
 pub configure-at-spec : {M : Type 1} → statement M
 configure-at-spec =
     tie.close
-    (tie.spec configured-of-requires returns set-configured-requires bit-requires returns-2)
+    (tie.spec (λ c κs. search needs) returns (λ c κs. search needs) (λ c κs. search needs) returns-2)

@@ -9,12 +9,6 @@ use Rattle.configuration.proofs.configure_one.Tie as tie
 returns : tie.Need-returns
 returns c = failed-one _ _ _ _ (c .if1 .taken)
 
-named-block-requires : tie.Need-named-block-requires
-named-block-requires c κs = search needs
-
-enum-known-found : tie.Need-enum-known-found
-enum-known-found c = search needs
-
 configure-at-requires : tie.Need-configure-at-requires
 configure-at-requires c κs = let m = c .before .before .before in let p = m .before .before .before .before .pre in (named-less _ _ _ _ (sym (m .before .named-block .ensures) ∙ c .before .before .found .given .1), p .0, p .1)
 
@@ -32,8 +26,8 @@ configure-one-spec =
     tie.close
     (tie.spec
     returns
-    named-block-requires
-    enum-known-found
+    (λ c κs. search needs)
+    (λ c. search needs)
     configure-at-requires
     enum-told
     returns-2

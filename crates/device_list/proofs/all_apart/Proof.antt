@@ -6,17 +6,11 @@ use Rattle.device_list.proofs.Rising.{rising-apart}
 use Rattle.device_list.proofs.all_apart.Statement.{statement}
 use Rattle.device_list.proofs.all_apart.Tie as tie
 
-ids-rise-requires : tie.Need-ids-rise-requires
-ids-rise-requires c κs = search needs
-
 returns : tie.Need-returns
 returns c = sym (rising-apart _ _ _ (sym (c .before .ids-rise .ensures) ∙ c .if1 .taken))
-
-each-apart-requires : tie.Need-each-apart-requires
-each-apart-requires c κs = search needs
 
 returns-2 : tie.Need-returns-2
 returns-2 c = c .each-apart .ensures
 
 pub all-apart-spec : {M : Type 1} → statement M
-all-apart-spec = tie.close (tie.spec ids-rise-requires returns each-apart-requires returns-2)
+all-apart-spec = tie.close (tie.spec (λ c κs. search needs) returns (λ c κs. search needs) returns-2)

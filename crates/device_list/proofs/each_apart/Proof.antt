@@ -30,12 +30,6 @@ returns c =
     let t = c .before in
     every-fails _ _ _ (t .before .loop-test .taken) (no _ (t .device-apart .ensures) (c .if1 .taken))
 
-add-i : tie.Need-add-i Inv-loop μ-loop
-add-i c = omega arith
-
-loop-less : tie.Need-loop-less Inv-loop μ-loop
-loop-less c = omega arith
-
 loop-again : tie.Need-loop-again Inv-loop μ-loop
 loop-again c =
     let t = c .before in
@@ -53,7 +47,7 @@ each-apart-spec =
     loop-holds
     device-apart-requires
     returns
-    add-i
-    loop-less
+    (λ c. omega arith)
+    (λ c. omega arith)
     loop-again
     returns-2)

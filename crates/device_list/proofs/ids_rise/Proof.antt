@@ -23,42 +23,6 @@ loop-holds : tie.Need-loop-holds Inv-loop μ-loop
 unfolding every
 loop-holds c = (omega arith, refl)
 
-add-loop : tie.Need-add-loop Inv-loop μ-loop
-add-loop c = omega arith
-
-mul-rise : tie.Need-mul-rise Inv-loop μ-loop
-mul-rise c = omega arith
-
-add-rise : tie.Need-add-rise Inv-loop μ-loop
-add-rise c = omega arith
-
-mul-rise-2 : tie.Need-mul-rise-2 Inv-loop μ-loop
-mul-rise-2 c = omega arith
-
-shared-slice-read-rise : tie.Need-shared-slice-read-rise Inv-loop μ-loop
-shared-slice-read-rise c = omega arith
-
-add-rise-2 : tie.Need-add-rise-2 Inv-loop μ-loop
-add-rise-2 c = omega arith
-
-mul-rise-3 : tie.Need-mul-rise-3 Inv-loop μ-loop
-mul-rise-3 c = omega arith
-
-add-rise-3 : tie.Need-add-rise-3 Inv-loop μ-loop
-add-rise-3 c = omega arith
-
-mul-rise-4 : tie.Need-mul-rise-4 Inv-loop μ-loop
-mul-rise-4 c = omega arith
-
-shared-slice-read-rise-2 : tie.Need-shared-slice-read-rise-2 Inv-loop μ-loop
-shared-slice-read-rise-2 c = omega arith
-
-add-j : tie.Need-add-j Inv-loop μ-loop
-add-j c = omega arith
-
-loop-less : tie.Need-loop-less Inv-loop μ-loop
-loop-less c = omega arith
-
 loop-again : tie.Need-loop-again Inv-loop μ-loop
 loop-again c =
     let l = c .before .before .before .loop in
@@ -78,17 +42,17 @@ ids-rise-spec =
     Inv-loop
     μ-loop
     loop-holds
-    add-loop
-    mul-rise
-    add-rise
-    mul-rise-2
-    shared-slice-read-rise
-    add-rise-2
-    mul-rise-3
-    add-rise-3
-    mul-rise-4
-    shared-slice-read-rise-2
-    add-j
-    loop-less
+    (λ c. omega arith)
+    (λ c. omega arith)
+    (λ c. omega arith)
+    (λ c. omega arith)
+    (λ c. omega arith)
+    (λ c. omega arith)
+    (λ c. omega arith)
+    (λ c. omega arith)
+    (λ c. omega arith)
+    (λ c. omega arith)
+    (λ c. omega arith)
+    (λ c. omega arith)
     loop-again
     returns)

@@ -8,35 +8,11 @@ use native.Mathlib.Omega.{arith}
 use Rattle.device_list.proofs.is_device.Statement.{statement}
 use Rattle.device_list.proofs.is_device.Tie as tie
 
-mul-d : tie.Need-mul-d
-mul-d c = omega arith
-
-add-d : tie.Need-add-d
-add-d c = omega arith
-
-mul-if1 : tie.Need-mul-if1
-mul-if1 c = omega arith
-
-shared-slice-read-if1 : tie.Need-shared-slice-read-if1
-shared-slice-read-if1 c = omega arith
-
 returns : tie.Need-returns
 unfolding deviceIn
 returns c =
     let a = c .before .before .before .before .args in
     id-differs (a .words .now) (a .at) (a .i) _ _ (c .if1 .taken)
-
-add-n : tie.Need-add-n
-add-n c = omega arith
-
-mul-n : tie.Need-mul-n
-mul-n c = omega arith
-
-shared-slice-read-n : tie.Need-shared-slice-read-n
-shared-slice-read-n c = omega arith
-
-add-has-name : tie.Need-add-has-name
-add-has-name c = omega arith
 
 -- its name keeps the rules
 abbrev start : tie.Else1 → tie.Start
@@ -61,14 +37,14 @@ pub is-device-spec : {M : Type 1} → statement M
 is-device-spec =
     tie.close
     (tie.spec
-    mul-d
-    add-d
-    mul-if1
-    shared-slice-read-if1
+    (λ c. omega arith)
+    (λ c. omega arith)
+    (λ c. omega arith)
+    (λ c. omega arith)
     returns
-    add-n
-    mul-n
-    shared-slice-read-n
-    add-has-name
+    (λ c. omega arith)
+    (λ c. omega arith)
+    (λ c. omega arith)
+    (λ c. omega arith)
     has-name-requires
     returns-2)

@@ -8,9 +8,6 @@ use borrow.Author.Needs.{needs}
 use Rattle.device_list.proofs.keep_rules.Statement.{statement}
 use Rattle.device_list.proofs.keep_rules.Tie as tie
 
-each-keeps-requires : tie.Need-each-keeps-requires
-each-keeps-requires c κs = search needs
-
 returns : tie.Need-returns
 returns c =
     let e = c .before in
@@ -28,4 +25,4 @@ returns-2 c =
     ∙ sym (devices-last _ _ _ (e .before .before .pre .0) (yes _ (e .each-keeps .ensures) (c .before .if1 .left)))
 
 pub keep-rules-spec : {M : Type 1} → statement M
-keep-rules-spec = tie.close (tie.spec each-keeps-requires returns all-apart-requires returns-2)
+keep-rules-spec = tie.close (tie.spec (λ c κs. search needs) returns all-apart-requires returns-2)

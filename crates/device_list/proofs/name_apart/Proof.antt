@@ -32,12 +32,6 @@ returns c =
     let t = c .before in
     every-fails _ _ _ (t .before .loop-test .taken) (ap not (sym (t .same-device .ensures) ∙ c .if1 .taken))
 
-add-j : tie.Need-add-j Inv-loop μ-loop
-add-j c = omega arith
-
-loop-less : tie.Need-loop-less Inv-loop μ-loop
-loop-less c = omega arith
-
 loop-again : tie.Need-loop-again Inv-loop μ-loop
 loop-again c =
     let t = c .before in
@@ -56,7 +50,7 @@ name-apart-spec =
     loop-holds
     same-device-requires
     returns
-    add-j
-    loop-less
+    (λ c. omega arith)
+    (λ c. omega arith)
     loop-again
     returns-2)

@@ -16,9 +16,6 @@ Inv-loop state id name count i₀ i = (i ≤ count) × NoneBelow (λ k. isDevice
 abbrev μ-loop : tie.MeasureT-loop
 μ-loop state id name count i₀ i = count - i
 
-element-copy-out-count : tie.Need-element-copy-out-count Inv-loop μ-loop
-element-copy-out-count c = omega arith
-
 loop-holds : tie.Need-loop-holds Inv-loop μ-loop
 loop-holds c = (omega arith, none-first _)
 
@@ -42,9 +39,6 @@ returns c =
 add-i : tie.Need-add-i Inv-loop μ-loop
 add-i c = omega (arith, devices-few _ _ _ (start (c .before .before .before) .pre))
 
-loop-less : tie.Need-loop-less Inv-loop μ-loop
-loop-less c = omega arith
-
 loop-again : tie.Need-loop-again Inv-loop μ-loop
 loop-again c =
     let d = c .before in
@@ -61,11 +55,11 @@ named-device-spec =
     (tie.spec
     Inv-loop
     μ-loop
-    element-copy-out-count
+    (λ c. omega arith)
     loop-holds
     is-device-requires
     returns
     add-i
-    loop-less
+    (λ c. omega arith)
     loop-again
     returns-2)

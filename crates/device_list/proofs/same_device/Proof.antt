@@ -9,59 +9,11 @@ use native.Mathlib.Omega.{arith}
 use Rattle.device_list.proofs.same_device.Statement.{statement}
 use Rattle.device_list.proofs.same_device.Tie as tie
 
-mul-a : tie.Need-mul-a
-mul-a c = omega arith
-
-add-a : tie.Need-add-a
-add-a c = omega arith
-
-mul-b : tie.Need-mul-b
-mul-b c = omega arith
-
-add-b : tie.Need-add-b
-add-b c = omega arith
-
-mul-if1 : tie.Need-mul-if1
-mul-if1 c = omega arith
-
-shared-slice-read-if1 : tie.Need-shared-slice-read-if1
-shared-slice-read-if1 c = omega arith
-
-mul-if1-2 : tie.Need-mul-if1-2
-mul-if1-2 c = omega arith
-
-shared-slice-read-if1-2 : tie.Need-shared-slice-read-if1-2
-shared-slice-read-if1-2 c = omega arith
-
 returns : tie.Need-returns
 unfolding deviceIn
 returns c =
     let a = c .before .before .before .before .args in
     id-differs (a .words .now) (a .at) (a .j) _ _ (c .if1 .taken)
-
-add-n : tie.Need-add-n
-add-n c = omega arith
-
-mul-n : tie.Need-mul-n
-mul-n c = omega arith
-
-shared-slice-read-n : tie.Need-shared-slice-read-n
-shared-slice-read-n c = omega arith
-
-add-m : tie.Need-add-m
-add-m c = omega arith
-
-mul-m : tie.Need-mul-m
-mul-m c = omega arith
-
-shared-slice-read-m : tie.Need-shared-slice-read-m
-shared-slice-read-m c = omega arith
-
-add-same-names : tie.Need-add-same-names
-add-same-names c = omega arith
-
-add-same-names-2 : tie.Need-add-same-names-2
-add-same-names-2 c = omega arith
 
 -- the names of both keep the rules
 abbrev start : tie.Else1 → tie.Start
@@ -92,22 +44,22 @@ pub same-device-spec : {M : Type 1} → statement M
 same-device-spec =
     tie.close
     (tie.spec
-    mul-a
-    add-a
-    mul-b
-    add-b
-    mul-if1
-    shared-slice-read-if1
-    mul-if1-2
-    shared-slice-read-if1-2
+    (λ c. omega arith)
+    (λ c. omega arith)
+    (λ c. omega arith)
+    (λ c. omega arith)
+    (λ c. omega arith)
+    (λ c. omega arith)
+    (λ c. omega arith)
+    (λ c. omega arith)
     returns
-    add-n
-    mul-n
-    shared-slice-read-n
-    add-m
-    mul-m
-    shared-slice-read-m
-    add-same-names
-    add-same-names-2
+    (λ c. omega arith)
+    (λ c. omega arith)
+    (λ c. omega arith)
+    (λ c. omega arith)
+    (λ c. omega arith)
+    (λ c. omega arith)
+    (λ c. omega arith)
+    (λ c. omega arith)
     same-names-requires
     returns-2)

@@ -15,18 +15,6 @@ use borrow.Author.Needs.{needs}
 use Rattle.devices.proofs.answer.Statement.{statement}
 use Rattle.devices.proofs.answer.Tie as tie
 
-number-requires : tie.Need-number-requires
-number-requires c κs = search needs
-
-has-name-requires : tie.Need-has-name-requires
-has-name-requires c κs = search needs
-
-refuse-requires : tie.Need-refuse-requires
-refuse-requires c κs = search needs
-
-same-length : tie.Need-same-length
-same-length c = search needs
-
 returns : tie.Need-returns
 returns c =
     let r = c .before .before in
@@ -48,15 +36,6 @@ get32-requires c κs = omega (arith, name-long _ (named c))
 cast-operation : tie.Need-cast-operation
 cast-operation c = omega (arith, c .get32 .ensures .1)
 
-operation-requires : tie.Need-operation-requires
-operation-requires c κs = search needs
-
-refuse-requires-2 : tie.Need-refuse-requires-2
-refuse-requires-2 c κs = search needs
-
-same-length-2 : tie.Need-same-length-2
-same-length-2 c = search needs
-
 returns-2 : tie.Need-returns-2
 returns-2 c =
     let r = c .before .before in
@@ -73,15 +52,6 @@ sub-hear c = omega (arith, name-long _ (named (formed-so-far (c .before .before 
 part-hear-start : tie.Need-part-hear-start
 part-hear-start c = omega (arith, name-long _ (named (formed-so-far (c .before .before .before .before))))
 
-part-hear-end : tie.Need-part-hear-end
-part-hear-end c = search needs
-
-hear-requires : tie.Need-hear-requires
-hear-requires c κs = search needs
-
-same-length-3 : tie.Need-same-length-3
-same-length-3 c = search needs
-
 returns-3 : tie.Need-returns-3
 returns-3 c =
     let r = c .before .before in
@@ -97,21 +67,21 @@ pub answer-spec : {M : Type 1} → statement M
 answer-spec =
     tie.close
     (tie.spec
-    number-requires
-    has-name-requires
-    refuse-requires
-    same-length
+    (λ c κs. search needs)
+    (λ c κs. search needs)
+    (λ c κs. search needs)
+    (λ c. search needs)
     returns
     get32-requires
     cast-operation
-    operation-requires
-    refuse-requires-2
-    same-length-2
+    (λ c κs. search needs)
+    (λ c κs. search needs)
+    (λ c. search needs)
     returns-2
     get64-requires
     sub-hear
     part-hear-start
-    part-hear-end
-    hear-requires
-    same-length-3
+    (λ c. search needs)
+    (λ c κs. search needs)
+    (λ c. search needs)
     returns-3)

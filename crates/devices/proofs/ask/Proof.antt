@@ -5,33 +5,6 @@ use borrow.Author.Needs.{needs}
 use Rattle.devices.proofs.ask.Statement.{statement}
 use Rattle.devices.proofs.ask.Tie as tie
 
-configured-of-requires : tie.Need-configured-of-requires
-configured-of-requires c κs = search needs
-
-busy-of-requires : tie.Need-busy-of-requires
-busy-of-requires c κs = search needs
-
-result-of-requires : tie.Need-result-of-requires
-result-of-requires c κs = search needs
-
-configured-after-requires : tie.Need-configured-after-requires
-configured-after-requires c κs = search needs
-
-status-of-requires : tie.Need-status-of-requires
-status-of-requires c κs = search needs
-
-put-response-requires : tie.Need-put-response-requires
-put-response-requires c κs = search needs
-
-set-configured-requires : tie.Need-set-configured-requires
-set-configured-requires c κs = search needs
-
-device-requires : tie.Need-device-requires
-device-requires c κs = search needs
-
-same-length : tie.Need-same-length
-same-length c = search needs
-
 returns : tie.Need-returns
 returns c =
     let c₇ = c .before in
@@ -46,13 +19,13 @@ pub ask-spec : {M : Type 1} → statement M
 ask-spec =
     tie.close
     (tie.spec
-    configured-of-requires
-    busy-of-requires
-    result-of-requires
-    configured-after-requires
-    status-of-requires
-    put-response-requires
-    set-configured-requires
-    device-requires
-    same-length
+    (λ c κs. search needs)
+    (λ c κs. search needs)
+    (λ c κs. search needs)
+    (λ c κs. search needs)
+    (λ c κs. search needs)
+    (λ c κs. search needs)
+    (λ c κs. search needs)
+    (λ c κs. search needs)
+    (λ c. search needs)
     returns)

@@ -15,12 +15,6 @@ use Rattle.devices.proofs.has_name.Tie as tie
 returns : tie.Need-returns
 returns c = refute _ (λ t. let h = name-long _ t in omega arith)
 
-sub-last : tie.Need-sub-last
-sub-last c = omega arith
-
-shared-slice-read-if2 : tie.Need-shared-slice-read-if2
-shared-slice-read-if2 c = omega arith
-
 -- the last element is a byte
 is-byte : (c : tie.After-shared-slice-known2) → let b = c .before .before .before .args .b .now in getD b (length b - 1) 0 ≡ byteAt b (length b - 1)
 is-byte c =
@@ -30,12 +24,6 @@ is-byte c =
 
 returns-2 : tie.Need-returns-2
 returns-2 c = refute _ (λ t. c .if2 .taken (is-byte (c .before) ∙ name-ends _ t))
-
-sub-none-is-zero : tie.Need-sub-none-is-zero
-sub-none-is-zero c = omega arith
-
-none-is-zero-requires : tie.Need-none-is-zero-requires
-none-is-zero-requires c κs = search needs
 
 returns-3 : tie.Need-returns-3
 returns-3 c =
@@ -47,9 +35,9 @@ has-name-spec =
     tie.close
     (tie.spec
     returns
-    sub-last
-    shared-slice-read-if2
+    (λ c. omega arith)
+    (λ c. omega arith)
     returns-2
-    sub-none-is-zero
-    none-is-zero-requires
+    (λ c. omega arith)
+    (λ c κs. search needs)
     returns-3)

@@ -12,9 +12,6 @@ use Rattle.devices.proofs.hear.Tie as tie
 named-device-requires : tie.Need-named-device-requires
 named-device-requires c κs = sound-facts _ (c .before .before .before .pre .0) .devices
 
-enum-known-found : tie.Need-enum-known-found
-enum-known-found c = search needs
-
 ask-requires : tie.Need-ask-requires
 ask-requires c κs =
     let f = c .before .before .before in
@@ -25,24 +22,12 @@ ask-requires c κs =
 enum-told : tie.Need-enum-told
 enum-told c = search needs
 
-unknown-result-requires : tie.Need-unknown-result-requires
-unknown-result-requires c κs = search needs
-
-refuse-requires : tie.Need-refuse-requires
-refuse-requires c κs = search needs
-
-same-length : tie.Need-same-length
-same-length c = search needs
-
 returns : tie.Need-returns
 unfolding deviceFor
 returns c =
     let a = c .before .before in
     let f = a .before .before .before .before in
     rw (← f .before .before .named-device .ensures, f .found .given .1) (a .ask .ensures)
-
-same-length-2 : tie.Need-same-length-2
-same-length-2 c = search needs
 
 returns-2 : tie.Need-returns-2
 unfolding deviceFor
@@ -57,12 +42,12 @@ hear-spec =
     tie.close
     (tie.spec
     named-device-requires
-    enum-known-found
+    (λ c. search needs)
     ask-requires
     enum-told
-    unknown-result-requires
-    refuse-requires
-    same-length
+    (λ c κs. search needs)
+    (λ c κs. search needs)
+    (λ c. search needs)
     returns
-    same-length-2
+    (λ c. search needs)
     returns-2)

@@ -24,18 +24,6 @@ loop-holds : tie.Need-loop-holds Inv-loop μ-loop
 unfolding every
 loop-holds c = (omega arith, refl)
 
-add-none : tie.Need-add-none Inv-loop μ-loop
-add-none c = omega arith
-
-shared-slice-read-none : tie.Need-shared-slice-read-none Inv-loop μ-loop
-shared-slice-read-none c = omega arith
-
-add-k : tie.Need-add-k Inv-loop μ-loop
-add-k c = omega arith
-
-loop-less : tie.Need-loop-less Inv-loop μ-loop
-loop-less c = omega arith
-
 loop-again : tie.Need-loop-again Inv-loop μ-loop
 unfolding every
 loop-again c =
@@ -57,9 +45,9 @@ none-is-zero-spec =
     Inv-loop
     μ-loop
     loop-holds
-    add-none
-    shared-slice-read-none
-    add-k
-    loop-less
+    (λ c. omega arith)
+    (λ c. omega arith)
+    (λ c. omega arith)
+    (λ c. omega arith)
     loop-again
     returns)

@@ -12,12 +12,9 @@ returns : tie.Need-returns
 unfolding deviceNumber
 returns c = sym (pick-true _ _ _ (lt-ltb _ _ (c .if1 .taken)))
 
-get64-requires : tie.Need-get64-requires
-get64-requires c κs = search needs
-
 returns-2 : tie.Need-returns-2
 unfolding deviceNumber
 returns-2 c = c .get64 .ensures ∙ sym (pick-false _ _ _ (le-ltb _ _ (c .before .if1 .left)))
 
 pub number-spec : {M : Type 1} → statement M
-number-spec = tie.close (tie.spec returns get64-requires returns-2)
+number-spec = tie.close (tie.spec returns (λ c κs. search needs) returns-2)

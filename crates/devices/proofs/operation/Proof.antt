@@ -8,15 +8,9 @@ use borrow.Author.Needs.{needs}
 use Rattle.devices.proofs.operation.Statement.{statement}
 use Rattle.devices.proofs.operation.Tie as tie
 
-known-requires : tie.Need-known-requires
-known-requires c κs = search needs
-
 returns : tie.Need-returns
 unfolding operationOf
 returns c = c .known .ensures ∙ sym (pick-true _ _ _ (eq-eqb _ _ (c .before .if1 .taken)))
-
-known-requires-2 : tie.Need-known-requires-2
-known-requires-2 c κs = search needs
 
 returns-2 : tie.Need-returns-2
 unfolding operationOf
@@ -24,18 +18,12 @@ returns-2 c =
     let c2 = c .before in
     c .known2 .ensures ∙ sym (pick-false _ _ _ (ne-eqb _ _ (c2 .before .if1 .left)) ∙ pick-true _ _ _ (eq-eqb _ _ (c2 .if2 .taken)))
 
-known-requires-3 : tie.Need-known-requires-3
-known-requires-3 c κs = search needs
-
 returns-3 : tie.Need-returns-3
 unfolding operationOf
 returns-3 c =
     let c3 = c .before in
     let c2 = c3 .before in
     c .known3 .ensures ∙ sym (pick-false _ _ _ (ne-eqb _ _ (c2 .before .if1 .left)) ∙ pick-false _ _ _ (ne-eqb _ _ (c2 .if2 .left)) ∙ pick-true _ _ _ (eq-eqb _ _ (c3 .if3 .taken)))
-
-known-requires-4 : tie.Need-known-requires-4
-known-requires-4 c κs = search needs
 
 returns-4 : tie.Need-returns-4
 unfolding operationOf
@@ -56,12 +44,12 @@ pub operation-spec : {M : Type 1} → statement M
 operation-spec =
     tie.close
     (tie.spec
-    known-requires
+    (λ c κs. search needs)
     returns
-    known-requires-2
+    (λ c κs. search needs)
     returns-2
-    known-requires-3
+    (λ c κs. search needs)
     returns-3
-    known-requires-4
+    (λ c κs. search needs)
     returns-4
     returns-5)

@@ -8,9 +8,6 @@ use borrow.Author.Needs.{needs}
 use Rattle.front.proofs.byte_at.Statement.{statement}
 use Rattle.front.proofs.byte_at.Tie as tie
 
-shared-slice-read-result : tie.Need-shared-slice-read-result
-shared-slice-read-result c = search needs
-
 cast-result : tie.Need-cast-result
 cast-result c = omega (arith, c .shared-slice-known .given (c .before .before .args .i))
 
@@ -19,9 +16,6 @@ returns c =
     let a = c .before .before .args in
     let below : _ = c .shared-slice-known .given (a .i) in
     (byte-before (a .part .now) (a .piece .now) (a .i) (c .before .if1 .taken) (omega arith), omega arith)
-
-shared-slice-read-result-2 : tie.Need-shared-slice-read-result-2
-shared-slice-read-result-2 c = search needs
 
 cast-result-2 : tie.Need-cast-result-2
 cast-result-2 c = let a = c .before .before .args in omega (arith, c .shared-slice-known2 .given (a .i - length (a .part .now)))
@@ -36,9 +30,9 @@ pub byte-at-spec : {M : Type 1} → statement M
 byte-at-spec =
     tie.close
     (tie.spec
-    shared-slice-read-result
+    (λ c. search needs)
     cast-result
     returns
-    shared-slice-read-result-2
+    (λ c. search needs)
     cast-result-2
     returns-2)

@@ -10,23 +10,8 @@ use borrow.Author.Needs.{needs}
 use Rattle.front.proofs.channel_sound.Statement.{statement}
 use Rattle.front.proofs.channel_sound.Tie as tie
 
-byte-count-requires : tie.Need-byte-count-requires
-byte-count-requires c κs = search needs
-
-kept-of-requires : tie.Need-kept-of-requires
-kept-of-requires c κs = search needs
-
 returns : tie.Need-returns
 returns c = sym (sound-many _ _ (rw (c .before .kept-of .ensures) at (c .if1 .taken)))
-
-dropping-of-requires : tie.Need-dropping-of-requires
-dropping-of-requires c κs = search needs
-
-part-of-requires : tie.Need-part-of-requires
-part-of-requires c κs = search needs
-
-is-unfinished-requires : tie.Need-is-unfinished-requires
-is-unfinished-requires c κs = search needs
 
 -- the front, and that few enough bytes are kept
 abbrev front : tie.Start → Front
@@ -54,12 +39,12 @@ pub channel-sound-spec : {M : Type 1} → statement M
 channel-sound-spec =
     tie.close
     (tie.spec
-    byte-count-requires
-    kept-of-requires
+    (λ c κs. search needs)
+    (λ c κs. search needs)
     returns
-    dropping-of-requires
-    part-of-requires
-    is-unfinished-requires
+    (λ c κs. search needs)
+    (λ c κs. search needs)
+    (λ c κs. search needs)
     returns-2
     returns-3
     returns-4)

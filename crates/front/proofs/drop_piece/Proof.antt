@@ -6,12 +6,6 @@ use borrow.Author.Needs.{needs}
 use Rattle.front.proofs.drop_piece.Statement.{statement}
 use Rattle.front.proofs.drop_piece.Tie as tie
 
-lent-refusal-requires : tie.Need-lent-refusal-requires
-lent-refusal-requires c κs = search needs
-
-refused-requires : tie.Need-refused-requires
-refused-requires c κs = search needs
-
 returns : tie.Need-returns
 returns c =
     let d = c .before .before in
@@ -23,4 +17,4 @@ returns-2 c =
     piece-dropped _ _ _ _ _ _ (p .0) (sym (c .before .lent-refusal .ensures) ∙ c .if1 .left) (p .1)
 
 pub drop-piece-spec : {M : Type 1} → statement M
-drop-piece-spec = tie.close (tie.spec lent-refusal-requires refused-requires returns returns-2)
+drop-piece-spec = tie.close (tie.spec (λ c κs. search needs) (λ c κs. search needs) returns returns-2)

@@ -26,18 +26,9 @@ byte-count-requires c κs = tt
 loop-holds : tie.Need-loop-holds Inv-loop μ-loop
 loop-holds c = (omega arith, every-none _)
 
-channel-sound-requires : tie.Need-channel-sound-requires Inv-loop μ-loop
-channel-sound-requires c κs = omega arith
-
 returns : tie.Need-returns Inv-loop μ-loop
 unfolding frontSound
 returns c = (every-fails _ _ _ (c .before .before .loop-test .taken) (no _ (c .before .channel-sound .ensures) (c .if1 .taken)), c .before .before .before .before .before .word-count .ensures .1, c .before .before .before .before .byte-count .ensures .1)
-
-add-c : tie.Need-add-c Inv-loop μ-loop
-add-c c = omega arith
-
-loop-less : tie.Need-loop-less Inv-loop μ-loop
-loop-less c = omega arith
 
 loop-again : tie.Need-loop-again Inv-loop μ-loop
 loop-again c = (omega arith, every-more _ _ (c .before .before .before .loop .inv .1) (yes _ (c .before .channel-sound .ensures) (c .if1 .left)))
@@ -55,9 +46,9 @@ front-sound-spec =
     word-count-requires
     byte-count-requires
     loop-holds
-    channel-sound-requires
+    (λ c κs. omega arith)
     returns
-    add-c
-    loop-less
+    (λ c. omega arith)
+    (λ c. omega arith)
     loop-again
     returns-2)

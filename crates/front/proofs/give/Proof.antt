@@ -7,30 +7,12 @@ use borrow.Author.Needs.{needs}
 use Rattle.front.proofs.give.Statement.{statement}
 use Rattle.front.proofs.give.Tie as tie
 
-receive-requires : tie.Need-receive-requires
-receive-requires c κs = search needs
-
 -- the call
 abbrev call : tie.After-slice-known4 → tie.After-receive
 call c = c .before .before .before .before
 
-same-length : tie.Need-same-length
-same-length c = search needs
-
-same-length-2 : tie.Need-same-length-2
-same-length-2 c = search needs
-
 returns : tie.Need-returns
 returns c = (call (c .before .before) .receive .ensures, sym (pick-false _ _ _ (ne-eqb _ _ (c .if1 .taken))))
-
-set-words-requires : tie.Need-set-words-requires
-set-words-requires c κs = search needs
-
-same-length-3 : tie.Need-same-length-3
-same-length-3 c = search needs
-
-same-length-4 : tie.Need-same-length-4
-same-length-4 c = search needs
 
 returns-2 : tie.Need-returns-2
 returns-2 c =
@@ -41,11 +23,11 @@ pub give-spec : {M : Type 1} → statement M
 give-spec =
     tie.close
     (tie.spec
-    receive-requires
-    same-length
-    same-length-2
+    (λ c κs. search needs)
+    (λ c. search needs)
+    (λ c. search needs)
     returns
-    set-words-requires
-    same-length-3
-    same-length-4
+    (λ c κs. search needs)
+    (λ c. search needs)
+    (λ c. search needs)
     returns-2)

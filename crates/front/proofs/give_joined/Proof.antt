@@ -14,12 +14,6 @@ use Rattle.front.proofs.Pieces.{answer-none, give-refused, gives-by, ke
 use Rattle.front.proofs.give_joined.Statement.{statement}
 use Rattle.front.proofs.give_joined.Tie as tie
 
-action-refusal-requires : tie.Need-action-refusal-requires
-action-refusal-requires c κs = search needs
-
-refused-requires : tie.Need-refused-requires
-refused-requires c κs = search needs
-
 returns : tie.Need-returns
 returns c =
     let d = c .before .before in
@@ -95,15 +89,6 @@ give-requires : tie.Need-give-requires
 give-requires c κs =
     start (c .before .before .before .before .before .before .before .before .before .before) .pre .fronts .within
 
-given-requires : tie.Need-given-requires
-given-requires c κs = search needs
-
-same-length : tie.Need-same-length
-same-length c = search needs
-
-same-length-2 : tie.Need-same-length-2
-same-length-2 c = search needs
-
 returns-2 : tie.Need-returns-2
 returns-2 c =
     let d = c .before .before .before .before .before in
@@ -128,8 +113,8 @@ pub give-joined-spec : {M : Type 1} → statement M
 give-joined-spec =
     tie.close
     (tie.spec
-    action-refusal-requires
-    refused-requires
+    (λ c κs. search needs)
+    (λ c κs. search needs)
     returns
     kept-of-requires
     sub-taken
@@ -139,7 +124,7 @@ give-joined-spec =
     copy-requires
     part-of-requires
     give-requires
-    given-requires
-    same-length
-    same-length-2
+    (λ c κs. search needs)
+    (λ c. search needs)
+    (λ c. search needs)
     returns-2)

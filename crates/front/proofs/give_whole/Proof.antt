@@ -24,18 +24,6 @@ slice-aggregate-give c =
     let f : Front = record { words = e .args .words .now; bytes = e .args .bytes .now } in
     sym (length-take-le _ _ (omega (arith, g .comes .ends, kept-length f (e .args .channel) (g .fronts), e .pre .1)))
 
-give-requires : tie.Need-give-requires
-give-requires c κs = search needs
-
-given-requires : tie.Need-given-requires
-given-requires c κs = search needs
-
-same-length : tie.Need-same-length
-same-length c = search needs
-
-same-length-2 : tie.Need-same-length-2
-same-length-2 c = search needs
-
 returns : tie.Need-returns
 returns c =
     let d = c .before .before .before .before .before in
@@ -52,4 +40,4 @@ returns c =
 pub give-whole-spec : {M : Type 1} → statement M
 give-whole-spec =
     tie.close
-    (tie.spec slice-aggregate-give give-requires given-requires same-length same-length-2 returns)
+    (tie.spec slice-aggregate-give (λ c κs. search needs) (λ c κs. search needs) (λ c. search needs) (λ c. search needs) returns)

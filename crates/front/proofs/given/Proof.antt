@@ -6,9 +6,6 @@ use borrow.Author.Needs.{needs}
 use Rattle.front.proofs.given.Statement.{statement}
 use Rattle.front.proofs.given.Tie as tie
 
-refused-requires : tie.Need-refused-requires
-refused-requires c κs = search needs
-
 returns : tie.Need-returns
 unfolding pick
 returns c = rw (ne-eqb _ _ (c .before .if1 .taken)) (c .refused .ensures)
@@ -18,4 +15,4 @@ unfolding pick
 returns-2 c = rw (eq-eqb _ _ (c .if1 .left))
 
 pub given-spec : {M : Type 1} → statement M
-given-spec = tie.close (tie.spec refused-requires returns returns-2)
+given-spec = tie.close (tie.spec (λ c κs. search needs) returns returns-2)

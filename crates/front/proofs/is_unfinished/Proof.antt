@@ -11,19 +11,13 @@ returns : tie.Need-returns
 unfolding unfinished _or_
 returns c = rw (lt-ltb _ _ (c .if1 .taken))
 
-get32-requires : tie.Need-get32-requires
-get32-requires c κs = search needs
-
 returns-2 : tie.Need-returns-2
 unfolding unfinished _or_ _and_
 returns-2 c = rw (le-ltb _ _ (c .before .before .if1 .left), ← c .before .get32 .ensures .0, lt-leb _ _ (c .if2 .taken))
-
-add-result : tie.Need-add-result
-add-result c = search needs
 
 returns-3 : tie.Need-returns-3
 unfolding unfinished _or_ _and_
 returns-3 c = rw (le-ltb _ _ (c .before .before .if1 .left), ← c .before .get32 .ensures .0, le-leb _ _ (c .if2 .left))
 
 pub is-unfinished-spec : {M : Type 1} → statement M
-is-unfinished-spec = tie.close (tie.spec returns get32-requires returns-2 add-result returns-3)
+is-unfinished-spec = tie.close (tie.spec returns (λ c κs. search needs) returns-2 (λ c. search needs) returns-3)

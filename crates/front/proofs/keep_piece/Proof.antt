@@ -10,19 +10,10 @@ use borrow.Author.Needs.{needs}
 use Rattle.front.proofs.keep_piece.Statement.{statement}
 use Rattle.front.proofs.keep_piece.Tie as tie
 
-lent-refusal-requires : tie.Need-lent-refusal-requires
-lent-refusal-requires c κs = search needs
-
-refused-requires : tie.Need-refused-requires
-refused-requires c κs = search needs
-
 returns : tie.Need-returns
 returns c =
     let d = c .before .before in
     rw (c .refused .ensures) (piece-refused _ _ _ _ _ _ (d .before .before .before .before .pre .fronts) _ (d .lent-refusal .ensures) (c .before .if1 .taken))
-
-kept-of-requires : tie.Need-kept-of-requires
-kept-of-requires c κs = search needs
 
 -- where the kept bytes are counted: the entry, and that there is room for the piece
 abbrev start : tie.After-kept-of → tie.Start
@@ -35,9 +26,6 @@ room c =
     let f : Front = record { words = a .words .now; bytes = a .bytes .now } in
     omega (arith, g .comes .few, kept-length f (a .channel) (g .fronts), c .kept-of .ensures)
 
-mul-copy : tie.Need-mul-copy
-mul-copy c = search needs
-
 add-copy : tie.Need-add-copy
 add-copy c = omega (arith, room (c .before), start (c .before) .pre .fronts .within)
 
@@ -46,9 +34,6 @@ copy-requires c κs = omega (arith, room (c .before), start (c .before) .pre .fr
 
 add-set-words : tie.Need-add-set-words
 add-set-words c = omega (arith, room (c .before .before .before))
-
-set-words-requires : tie.Need-set-words-requires
-set-words-requires c κs = search needs
 
 returns-2 : tie.Need-returns-2
 returns-2 c =
@@ -62,13 +47,13 @@ pub keep-piece-spec : {M : Type 1} → statement M
 keep-piece-spec =
     tie.close
     (tie.spec
-    lent-refusal-requires
-    refused-requires
+    (λ c κs. search needs)
+    (λ c κs. search needs)
     returns
-    kept-of-requires
-    mul-copy
+    (λ c κs. search needs)
+    (λ c. search needs)
     add-copy
     copy-requires
     add-set-words
-    set-words-requires
+    (λ c κs. search needs)
     returns-2)

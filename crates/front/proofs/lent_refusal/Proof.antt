@@ -9,9 +9,6 @@ use borrow.Author.Needs.{needs}
 use Rattle.front.proofs.lent_refusal.Statement.{statement}
 use Rattle.front.proofs.lent_refusal.Tie as tie
 
-sound-requires : tie.Need-sound-requires
-sound-requires c κs = search needs
-
 returns : tie.Need-returns
 unfolding lentRefusal refusalIn pick
 returns c = rw (no _ (c .before .sound .ensures) (c .if1 .taken))
@@ -38,4 +35,4 @@ returns-5 c =
 
 pub lent-refusal-spec : {M : Type 1} → statement M
 lent-refusal-spec =
-    tie.close (tie.spec sound-requires returns returns-2 returns-3 returns-4 returns-5)
+    tie.close (tie.spec (λ c κs. search needs) returns returns-2 returns-3 returns-4 returns-5)

@@ -9,15 +9,9 @@ use borrow.Author.Needs.{needs}
 use Rattle.front.proofs.next_of.Statement.{statement}
 use Rattle.front.proofs.next_of.Tie as tie
 
-add-count : tie.Need-add-count
-add-count c = search needs
-
 returns : tie.Need-returns
 returns c =
     record { kept = λ _. keeps-few _ _ (c .if1 .taken); gave = λ t. absurd (clash false refl t) }
-
-payload-len-requires : tie.Need-payload-len-requires
-payload-len-requires c κs = search needs
 
 returns-2 : tie.Need-returns-2
 returns-2 c =
@@ -27,9 +21,6 @@ returns-2 c =
       kept = λ t. absurd (clash true t refl);
       gave = λ _. gives-long _ _ (b .if1 .left) (pre .0) (pre .1) (rw (c .before .payload-len .ensures .0) at (c .if2 .taken));
     }
-
-add-end : tie.Need-add-end
-add-end c = search needs
 
 returns-3 : tie.Need-returns-3
 returns-3 c =
@@ -44,4 +35,4 @@ returns-3 c =
 
 pub next-of-spec : {M : Type 1} → statement M
 next-of-spec =
-    tie.close (tie.spec add-count returns payload-len-requires returns-2 add-end returns-3)
+    tie.close (tie.spec (λ c. search needs) returns (λ c κs. search needs) returns-2 (λ c. search needs) returns-3)

@@ -8,22 +8,10 @@ use Rattle.front.proofs.Pieces.{piece-outside, piece-unsound}
 use Rattle.front.proofs.piece.Statement.{statement}
 use Rattle.front.proofs.piece.Tie as tie
 
-front-sound-requires : tie.Need-front-sound-requires
-front-sound-requires c κs = search needs
-
-refused-requires : tie.Need-refused-requires
-refused-requires c κs = search needs
-
 returns : tie.Need-returns
 returns c =
     rw (c .refused .ensures)
     (piece-unsound _ _ _ _ _ _ (no _ (c .before .before .front-sound .ensures .0) (c .before .if1 .taken)))
-
-lent-refusal-requires : tie.Need-lent-refusal-requires
-lent-refusal-requires c κs = search needs
-
-refused-requires-2 : tie.Need-refused-requires-2
-refused-requires-2 c κs = search needs
 
 returns-2 : tie.Need-returns-2
 returns-2 c =
@@ -55,12 +43,6 @@ drop-piece-requires c κs =
     let d = t .before in
     (fronts (d .before .before), λ z. t .if3 .taken (d .dropping-of .ensures ∙ z))
 
-same-length : tie.Need-same-length
-same-length c = search needs
-
-same-length-2 : tie.Need-same-length-2
-same-length-2 c = search needs
-
 returns-3 : tie.Need-returns-3
 returns-3 c = c .drop-piece .ensures
 
@@ -70,12 +52,6 @@ take-piece-requires c κs =
     let d = t .before in
     (fronts (d .before .before), sym (d .dropping-of .ensures) ∙ t .if3 .left)
 
-same-length-3 : tie.Need-same-length-3
-same-length-3 c = search needs
-
-same-length-4 : tie.Need-same-length-4
-same-length-4 c = search needs
-
 returns-4 : tie.Need-returns-4
 returns-4 c = c .before .before .before .before .take-piece .ensures
 
@@ -83,18 +59,18 @@ pub piece-spec : {M : Type 1} → statement M
 piece-spec =
     tie.close
     (tie.spec
-    front-sound-requires
-    refused-requires
+    (λ c κs. search needs)
+    (λ c κs. search needs)
     returns
-    lent-refusal-requires
-    refused-requires-2
+    (λ c κs. search needs)
+    (λ c κs. search needs)
     returns-2
     dropping-of-requires
     drop-piece-requires
-    same-length
-    same-length-2
+    (λ c. search needs)
+    (λ c. search needs)
     returns-3
     take-piece-requires
-    same-length-3
-    same-length-4
+    (λ c. search needs)
+    (λ c. search needs)
     returns-4)

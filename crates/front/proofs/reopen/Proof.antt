@@ -10,14 +10,8 @@ use borrow.Author.Needs.{needs}
 use Rattle.front.proofs.reopen.Statement.{statement}
 use Rattle.front.proofs.reopen.Tie as tie
 
-front-sound-requires : tie.Need-front-sound-requires
-front-sound-requires c κs = search needs
-
 returns : tie.Need-returns
 returns c = reopen-unsound _ _ _ (no _ (c .before .front-sound .ensures .0) (c .if1 .taken))
-
-reopen-refusal-requires : tie.Need-reopen-refusal-requires
-reopen-refusal-requires c κs = search needs
 
 returns-2 : tie.Need-returns-2
 returns-2 c = let d = c .before .before in reopen-refused _ _ _ _ (yes _ (d .before .front-sound .ensures .0) (d .if1 .left)) (c .before .reopen-refusal .ensures) (c .if2 .taken)
@@ -49,9 +43,9 @@ pub reopen-spec : {M : Type 1} → statement M
 reopen-spec =
     tie.close
     (tie.spec
-    front-sound-requires
+    (λ c κs. search needs)
     returns
-    reopen-refusal-requires
+    (λ c κs. search needs)
     returns-2
     set-words-requires
     returns-3)

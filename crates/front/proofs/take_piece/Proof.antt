@@ -56,12 +56,6 @@ keep-piece-requires c κs =
     let p = start (counted (d .before)) .pre in
     record { fronts = p .0; unmarked = p .1; comes = comes d .kept (not-true (d .next-of .result .given) (t .if1 .taken)) }
 
-same-length : tie.Need-same-length
-same-length c = search needs
-
-same-length-2 : tie.Need-same-length-2
-same-length-2 c = search needs
-
 returns : tie.Need-returns
 returns c = c .keep-piece .ensures
 
@@ -75,12 +69,6 @@ give-whole-requires c κs =
       sym (k .kept-of .ensures) ∙ t .if2 .taken,
     )
 
-same-length-3 : tie.Need-same-length-3
-same-length-3 c = search needs
-
-same-length-4 : tie.Need-same-length-4
-same-length-4 c = search needs
-
 returns-2 : tie.Need-returns-2
 returns-2 c = c .before .before .before .before .give-whole .ensures
 
@@ -90,12 +78,6 @@ give-joined-requires c κs =
     let d = t .before .before .before in
     let p = start (counted (d .before)) .pre in
     record { fronts = p .0; unmarked = p .1; comes = comes d .gave (not-false (d .next-of .result .given) (t .before .if1 .left)) }
-
-same-length-5 : tie.Need-same-length-5
-same-length-5 c = search needs
-
-same-length-6 : tie.Need-same-length-6
-same-length-6 c = search needs
 
 returns-3 : tie.Need-returns-3
 returns-3 c = c .before .before .before .before .give-joined .ensures
@@ -108,14 +90,14 @@ take-piece-spec =
     part-of-requires
     next-of-requires
     keep-piece-requires
-    same-length
-    same-length-2
+    (λ c. search needs)
+    (λ c. search needs)
     returns
     give-whole-requires
-    same-length-3
-    same-length-4
+    (λ c. search needs)
+    (λ c. search needs)
     returns-2
     give-joined-requires
-    same-length-5
-    same-length-6
+    (λ c. search needs)
+    (λ c. search needs)
     returns-3)

@@ -10,24 +10,6 @@ use Rattle.handshake.proofs.accepted.Tie as tie
 enum-told : tie.Need-enum-told
 enum-told c = search needs
 
-silent-requires : tie.Need-silent-requires
-silent-requires c κs = search needs
-
-enum-known-effect : tie.Need-enum-known-effect
-enum-known-effect c = search needs
-
-set-session-requires : tie.Need-set-session-requires
-set-session-requires c κs = search needs
-
-silent-requires-2 : tie.Need-silent-requires-2
-silent-requires-2 c κs = search needs
-
-enum-known-effect-2 : tie.Need-enum-known-effect-2
-enum-known-effect-2 c = search needs
-
-set-session-requires-2 : tie.Need-set-session-requires-2
-set-session-requires-2 c κs = search needs
-
 pack-requires : tie.Need-pack-requires
 pack-requires c κs = let d = c .before .before .before .before .before in
     subst Fits (d .effect2 .given .1) (d .before .before .before .pre .1)
@@ -35,14 +17,8 @@ pack-requires c κs = let d = c .before .before .before .before .before in
 returns : tie.Need-returns
 returns c = ignored _ _ _ (c .before .enum-told .given .1) (c .silent .ensures)
 
-same-length : tie.Need-same-length
-same-length c = search needs
-
 returns-2 : tie.Need-returns-2
 returns-2 c = let d = c .before .before .before in became _ _ _ _ _ (d .before .before .before .effect .given .1) (d .set-session .ensures) (c .silent2 .ensures)
-
-same-length-2 : tie.Need-same-length-2
-same-length-2 c = search needs
 
 returns-3 : tie.Need-returns-3
 returns-3 c = let d = c .before .before .before in sends _ _ _ _ _ _ (d .before .before .before .effect2 .given .1) (d .set-session2 .ensures) (c .pack .ensures)
@@ -52,15 +28,15 @@ accepted-spec =
     tie.close
     (tie.spec
     enum-told
-    silent-requires
-    enum-known-effect
-    set-session-requires
-    silent-requires-2
-    enum-known-effect-2
-    set-session-requires-2
+    (λ c κs. search needs)
+    (λ c. search needs)
+    (λ c κs. search needs)
+    (λ c κs. search needs)
+    (λ c. search needs)
+    (λ c κs. search needs)
     pack-requires
     returns
-    same-length
+    (λ c. search needs)
     returns-2
-    same-length-2
+    (λ c. search needs)
     returns-3)

@@ -18,39 +18,9 @@ Inv-loop class accepts list end₀ i₀ end i = (i ≤ length list) × (end ≡ 
 abbrev μ-loop : tie.MeasureT-loop
 μ-loop class accepts list end₀ i₀ end i = length list - i
 
-array-write-end : tie.Need-array-write-end Inv-loop μ-loop
-array-write-end c = omega arith
-
-array-write-end-2 : tie.Need-array-write-end-2 Inv-loop μ-loop
-array-write-end-2 c = omega arith
-
-array-write-end-3 : tie.Need-array-write-end-3 Inv-loop μ-loop
-array-write-end-3 c = omega arith
-
 loop-holds : tie.Need-loop-holds Inv-loop μ-loop
 unfolding blankEnd
 loop-holds c = (omega arith, paste-zero _ firstVersionWord (c .args .list .now))
-
-mul-end : tie.Need-mul-end Inv-loop μ-loop
-mul-end c = omega arith
-
-shared-slice-read-end : tie.Need-shared-slice-read-end Inv-loop μ-loop
-shared-slice-read-end c = omega arith
-
-add-end : tie.Need-add-end Inv-loop μ-loop
-add-end c = omega arith
-
-mul-end-2 : tie.Need-mul-end-2 Inv-loop μ-loop
-mul-end-2 c = omega arith
-
-array-write-end-4 : tie.Need-array-write-end-4 Inv-loop μ-loop
-array-write-end-4 c = omega arith
-
-add-i : tie.Need-add-i Inv-loop μ-loop
-add-i c = omega arith
-
-loop-less : tie.Need-loop-less Inv-loop μ-loop
-loop-less c = omega arith
 
 loop-again : tie.Need-loop-again Inv-loop μ-loop
 loop-again c = let a = c .before .before .before .args in
@@ -72,16 +42,16 @@ new-end-spec =
     (tie.spec
     Inv-loop
     μ-loop
-    array-write-end
-    array-write-end-2
-    array-write-end-3
+    (λ c. omega arith)
+    (λ c. omega arith)
+    (λ c. omega arith)
     loop-holds
-    mul-end
-    shared-slice-read-end
-    add-end
-    mul-end-2
-    array-write-end-4
-    add-i
-    loop-less
+    (λ c. omega arith)
+    (λ c. omega arith)
+    (λ c. omega arith)
+    (λ c. omega arith)
+    (λ c. omega arith)
+    (λ c. omega arith)
+    (λ c. omega arith)
     loop-again
     returns)

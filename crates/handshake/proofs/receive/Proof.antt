@@ -13,20 +13,8 @@ use Rattle.vio_model.proofs.Kept.{receive-fits}
 use Rattle.handshake.proofs.receive.Statement.{statement}
 use Rattle.handshake.proofs.receive.Tie as tie
 
-sound-requires : tie.Need-sound-requires
-sound-requires c κs = search needs
-
-silent-requires : tie.Need-silent-requires
-silent-requires c κs = search needs
-
-same-length : tie.Need-same-length
-same-length c = search needs
-
 returns : tie.Need-returns
 returns c = receive-refused _ _ (c .before .before .sound .ensures) _ _ _ _ (c .before .before .before .before .before .fits .next .fits) (c .before .if1 .taken) (c .silent .ensures)
-
-unpack-requires : tie.Need-unpack-requires
-unpack-requires c κs = search needs
 
 heard-requires : tie.Need-heard-requires
 heard-requires c κs = let d = c .before .before in yes _ (d .before .sound .ensures) (d .if1 .left)
@@ -39,9 +27,6 @@ accepted-requires c κs = let d = c .before .before .before .before in
     let same = c .before .heard .ensures ∙ ap (heard (endOf (a .args .end .now)) (a .args .next)) (c .before .before .before .unpack .ensures) in
     (sound-facts _ e .size, subst Fits (sym same) (receive-fits _ _ words e (a .fits .next .fits) (a .fits .first .fits)))
 
-same-length-2 : tie.Need-same-length-2
-same-length-2 c = search needs
-
 returns-2 : tie.Need-returns-2
 returns-2 c = let d = c .before .before .before .before in
     let e = d .before .before .before in
@@ -51,12 +36,12 @@ pub receive-spec : {M : Type 1} → statement M
 receive-spec =
     tie.close
     (tie.spec
-    sound-requires
-    silent-requires
-    same-length
+    (λ c κs. search needs)
+    (λ c κs. search needs)
+    (λ c. search needs)
     returns
-    unpack-requires
+    (λ c κs. search needs)
     heard-requires
     accepted-requires
-    same-length-2
+    (λ c. search needs)
     returns-2)

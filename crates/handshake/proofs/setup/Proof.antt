@@ -9,9 +9,6 @@ use Rattle.vio_model.proofs.Versions.{list-rules}
 use Rattle.handshake.proofs.setup.Statement.{statement}
 use Rattle.handshake.proofs.setup.Tie as tie
 
-accepted-list-requires : tie.Need-accepted-list-requires
-accepted-list-requires c κs = search needs
-
 returns : tie.Need-returns
 unfolding ready pick
 returns c =
@@ -36,4 +33,4 @@ returns-2 c =
     }
 
 pub setup-spec : {M : Type 1} → statement M
-setup-spec = tie.close (tie.spec accepted-list-requires returns new-end-requires returns-2)
+setup-spec = tie.close (tie.spec (λ c κs. search needs) returns new-end-requires returns-2)

@@ -10,15 +10,6 @@ use Rattle.vio_model.proofs.Kept.{start-fits}
 use Rattle.handshake.proofs.start.Statement.{statement}
 use Rattle.handshake.proofs.start.Tie as tie
 
-sound-requires : tie.Need-sound-requires
-sound-requires c κs = search needs
-
-silent-requires : tie.Need-silent-requires
-silent-requires c κs = search needs
-
-same-length : tie.Need-same-length
-same-length c = search needs
-
 returns : tie.Need-returns
 returns c = start-refused _ _ (c .before .before .sound .ensures) _ _ (c .before .before .before .before .before .fits .id .fits) (c .before .if1 .taken) (c .silent .ensures)
 
@@ -30,9 +21,6 @@ accepted-requires c κs = let d = c .before .before .before in
     let e = yes _ (d .before .sound .ensures) (d .if1 .left) in
     (sound-facts _ e .size, subst Fits (sym (c .before .asking .ensures)) (start-fits _ _ e (d .before .before .before .before .fits .id .fits)))
 
-same-length-2 : tie.Need-same-length-2
-same-length-2 c = search needs
-
 returns-2 : tie.Need-returns-2
 returns-2 c = let d = c .before .before .before .before in
     start-accepted _ _ (d .before .before .before .sound .ensures) _ _ _ _ (d .before .before .before .before .before .before .fits .id .fits) (d .before .before .if1 .left) (d .asking .ensures) (c .before .before .accepted .ensures)
@@ -41,11 +29,11 @@ pub start-spec : {M : Type 1} → statement M
 start-spec =
     tie.close
     (tie.spec
-    sound-requires
-    silent-requires
-    same-length
+    (λ c κs. search needs)
+    (λ c κs. search needs)
+    (λ c. search needs)
     returns
     asking-requires
     accepted-requires
-    same-length-2
+    (λ c. search needs)
     returns-2)

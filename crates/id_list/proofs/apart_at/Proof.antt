@@ -24,27 +24,6 @@ loop-holds : tie.Need-loop-holds Inv-loop μ-loop
 unfolding every
 loop-holds c = (omega arith, refl)
 
-mul-apart : tie.Need-mul-apart Inv-loop μ-loop
-mul-apart c = omega arith
-
-element-copy-out-apart : tie.Need-element-copy-out-apart Inv-loop μ-loop
-element-copy-out-apart c = omega arith
-
-add-apart : tie.Need-add-apart Inv-loop μ-loop
-add-apart c = omega arith
-
-mul-apart-2 : tie.Need-mul-apart-2 Inv-loop μ-loop
-mul-apart-2 c = omega arith
-
-element-copy-out-apart-2 : tie.Need-element-copy-out-apart-2 Inv-loop μ-loop
-element-copy-out-apart-2 c = omega arith
-
-add-k : tie.Need-add-k Inv-loop μ-loop
-add-k c = omega arith
-
-loop-less : tie.Need-loop-less Inv-loop μ-loop
-loop-less c = omega arith
-
 loop-again : tie.Need-loop-again Inv-loop μ-loop
 unfolding every
 loop-again c = let l = c .before .before .before .loop in
@@ -63,12 +42,12 @@ apart-at-spec =
     Inv-loop
     μ-loop
     loop-holds
-    mul-apart
-    element-copy-out-apart
-    add-apart
-    mul-apart-2
-    element-copy-out-apart-2
-    add-k
-    loop-less
+    (λ c. omega arith)
+    (λ c. omega arith)
+    (λ c. omega arith)
+    (λ c. omega arith)
+    (λ c. omega arith)
+    (λ c. omega arith)
+    (λ c. omega arith)
     loop-again
     returns)

@@ -31,12 +31,6 @@ returns c =
     let t = c .before in
     every-fails _ _ _ (t .before .loop-test .taken) (no _ (t .id-apart .ensures) (c .if1 .taken))
 
-add-p : tie.Need-add-p Inv-loop μ-loop
-add-p c = omega arith
-
-loop-less : tie.Need-loop-less Inv-loop μ-loop
-loop-less c = omega arith
-
 loop-again : tie.Need-loop-again Inv-loop μ-loop
 loop-again c =
     let t = c .before in
@@ -54,7 +48,7 @@ each-apart-spec =
     loop-holds
     id-apart-requires
     returns
-    add-p
-    loop-less
+    (λ c. omega arith)
+    (λ c. omega arith)
     loop-again
     returns-2)

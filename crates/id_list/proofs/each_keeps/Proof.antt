@@ -25,9 +25,6 @@ abbrev μ-loop : tie.MeasureT-loop
 loop-holds : tie.Need-loop-holds Inv-loop μ-loop
 loop-holds c = (omega arith, every-none _, c .before .pre .2, none-hashed _ _ _)
 
-hashed-id-requires : tie.Need-hashed-id-requires Inv-loop μ-loop
-hashed-id-requires c κs = omega arith
-
 returns : tie.Need-returns Inv-loop μ-loop
 returns c =
     let i = c .before in
@@ -35,27 +32,6 @@ returns c =
 
 folded-requires : tie.Need-folded-requires Inv-loop μ-loop
 folded-requires c κs = tt
-
-mul-hashes : tie.Need-mul-hashes Inv-loop μ-loop
-mul-hashes c = omega arith
-
-element-write-hashes : tie.Need-element-write-hashes Inv-loop μ-loop
-element-write-hashes c = omega arith
-
-add-hashes : tie.Need-add-hashes Inv-loop μ-loop
-add-hashes c = omega arith
-
-mul-hashes-2 : tie.Need-mul-hashes-2 Inv-loop μ-loop
-mul-hashes-2 c = omega arith
-
-element-write-hashes-2 : tie.Need-element-write-hashes-2 Inv-loop μ-loop
-element-write-hashes-2 c = omega arith
-
-add-p : tie.Need-add-p Inv-loop μ-loop
-add-p c = omega arith
-
-loop-less : tie.Need-loop-less Inv-loop μ-loop
-loop-less c = omega arith
 
 loop-again : tie.Need-loop-again Inv-loop μ-loop
 loop-again c =
@@ -81,15 +57,15 @@ each-keeps-spec =
     Inv-loop
     μ-loop
     loop-holds
-    hashed-id-requires
+    (λ c κs. omega arith)
     returns
     folded-requires
-    mul-hashes
-    element-write-hashes
-    add-hashes
-    mul-hashes-2
-    element-write-hashes-2
-    add-p
-    loop-less
+    (λ c. omega arith)
+    (λ c. omega arith)
+    (λ c. omega arith)
+    (λ c. omega arith)
+    (λ c. omega arith)
+    (λ c. omega arith)
+    (λ c. omega arith)
     loop-again
     returns-2)

@@ -17,33 +17,6 @@ abbrev μ-loop : tie.MeasureT-loop
 loop-holds : tie.Need-loop-holds Inv-loop μ-loop
 loop-holds c = (omega arith, refl)
 
-cast-hashes : tie.Need-cast-hashes Inv-loop μ-loop
-cast-hashes c = omega arith
-
-mul-hashes : tie.Need-mul-hashes Inv-loop μ-loop
-mul-hashes c = omega arith
-
-array-write-hashes : tie.Need-array-write-hashes Inv-loop μ-loop
-array-write-hashes c = omega arith
-
-cast-hashes-2 : tie.Need-cast-hashes-2 Inv-loop μ-loop
-cast-hashes-2 c = omega arith
-
-add-hashes : tie.Need-add-hashes Inv-loop μ-loop
-add-hashes c = omega arith
-
-mul-hashes-2 : tie.Need-mul-hashes-2 Inv-loop μ-loop
-mul-hashes-2 c = omega arith
-
-array-write-hashes-2 : tie.Need-array-write-hashes-2 Inv-loop μ-loop
-array-write-hashes-2 c = omega arith
-
-add-p : tie.Need-add-p Inv-loop μ-loop
-add-p c = omega arith
-
-loop-less : tie.Need-loop-less Inv-loop μ-loop
-loop-less c = omega arith
-
 loop-again : tie.Need-loop-again Inv-loop μ-loop
 loop-again c = (omega arith, simp length-set (c .before .loop .inv .1))
 
@@ -57,14 +30,14 @@ first-hashes-spec =
     Inv-loop
     μ-loop
     loop-holds
-    cast-hashes
-    mul-hashes
-    array-write-hashes
-    cast-hashes-2
-    add-hashes
-    mul-hashes-2
-    array-write-hashes-2
-    add-p
-    loop-less
+    (λ c. omega arith)
+    (λ c. omega arith)
+    (λ c. omega arith)
+    (λ c. omega arith)
+    (λ c. omega arith)
+    (λ c. omega arith)
+    (λ c. omega arith)
+    (λ c. omega arith)
+    (λ c. omega arith)
     loop-again
     returns)

@@ -21,18 +21,6 @@ loop-holds : tie.Need-loop-holds Inv-loop μ-loop
 unfolding every
 loop-holds c = (omega arith, refl)
 
-add-apart-at : tie.Need-add-apart-at Inv-loop μ-loop
-add-apart-at c = omega arith
-
-apart-at-requires : tie.Need-apart-at-requires Inv-loop μ-loop
-apart-at-requires c κs = omega arith
-
-add-d : tie.Need-add-d Inv-loop μ-loop
-add-d c = omega arith
-
-loop-less : tie.Need-loop-less Inv-loop μ-loop
-loop-less c = omega arith
-
 loop-again : tie.Need-loop-again Inv-loop μ-loop
 unfolding every
 loop-again c = let l = c .before .before .loop in
@@ -50,9 +38,9 @@ hashes-apart-spec =
     Inv-loop
     μ-loop
     loop-holds
-    add-apart-at
-    apart-at-requires
-    add-d
-    loop-less
+    (λ c. omega arith)
+    (λ c κs. omega arith)
+    (λ c. omega arith)
+    (λ c. omega arith)
     loop-again
     returns)

@@ -19,44 +19,8 @@ Inv-loop words at p d n q₀ q = (q ≤ p) × (every q (λ k. not (sameName (idI
 abbrev μ-loop : tie.MeasureT-loop
 μ-loop words at p d n q₀ q = p - q
 
-mul-d : tie.Need-mul-d Inv-loop μ-loop
-mul-d c = omega arith
-
-add-d : tie.Need-add-d Inv-loop μ-loop
-add-d c = omega arith
-
-add-n : tie.Need-add-n Inv-loop μ-loop
-add-n c = omega arith
-
-mul-n : tie.Need-mul-n Inv-loop μ-loop
-mul-n c = omega arith
-
-shared-slice-read-n : tie.Need-shared-slice-read-n Inv-loop μ-loop
-shared-slice-read-n c = omega arith
-
 loop-holds : tie.Need-loop-holds Inv-loop μ-loop
 loop-holds c = (omega arith, every-none _)
-
-mul-e : tie.Need-mul-e Inv-loop μ-loop
-mul-e c = omega arith
-
-add-e : tie.Need-add-e Inv-loop μ-loop
-add-e c = omega arith
-
-add-m : tie.Need-add-m Inv-loop μ-loop
-add-m c = omega arith
-
-mul-m : tie.Need-mul-m Inv-loop μ-loop
-mul-m c = omega arith
-
-shared-slice-read-m : tie.Need-shared-slice-read-m Inv-loop μ-loop
-shared-slice-read-m c = omega arith
-
-add-same-names : tie.Need-add-same-names Inv-loop μ-loop
-add-same-names c = omega arith
-
-add-same-names-2 : tie.Need-add-same-names-2 Inv-loop μ-loop
-add-same-names-2 c = omega arith
 
 -- the bytes of both keep the rules
 abbrev start : tie.In-loop Inv-loop μ-loop → tie.Start Inv-loop μ-loop
@@ -88,12 +52,6 @@ returns c =
     let l = c .before .before .before in
     every-fails _ _ _ (l .loop-test .taken) (ap not (same (c .before) ∙ c .if1 .taken))
 
-add-q : tie.Need-add-q Inv-loop μ-loop
-add-q c = omega arith
-
-loop-less : tie.Need-loop-less Inv-loop μ-loop
-loop-less c = omega arith
-
 loop-again : tie.Need-loop-again Inv-loop μ-loop
 loop-again c =
     let l = c .before .before .before in
@@ -109,22 +67,22 @@ id-apart-spec =
     (tie.spec
     Inv-loop
     μ-loop
-    mul-d
-    add-d
-    add-n
-    mul-n
-    shared-slice-read-n
+    (λ c. omega arith)
+    (λ c. omega arith)
+    (λ c. omega arith)
+    (λ c. omega arith)
+    (λ c. omega arith)
     loop-holds
-    mul-e
-    add-e
-    add-m
-    mul-m
-    shared-slice-read-m
-    add-same-names
-    add-same-names-2
+    (λ c. omega arith)
+    (λ c. omega arith)
+    (λ c. omega arith)
+    (λ c. omega arith)
+    (λ c. omega arith)
+    (λ c. omega arith)
+    (λ c. omega arith)
     same-names-requires
     returns
-    add-q
-    loop-less
+    (λ c. omega arith)
+    (λ c. omega arith)
     loop-again
     returns-2)

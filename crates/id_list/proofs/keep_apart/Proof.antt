@@ -13,12 +13,6 @@ use borrow.Author.Needs.{needs}
 use Rattle.id_list.proofs.keep_apart.Statement.{statement}
 use Rattle.id_list.proofs.keep_apart.Tie as tie
 
-first-hashes-requires : tie.Need-first-hashes-requires
-first-hashes-requires c κs = search needs
-
-each-keeps-requires : tie.Need-each-keeps-requires
-each-keeps-requires c κs = search needs
-
 returns : tie.Need-returns
 returns c =
     refute _ (λ t. clash _ (no _ (c .before .each-keeps .ensures .0) (c .if1 .taken)) (ids-rules _ _ _ t .each))
@@ -29,9 +23,6 @@ start c = c .before .before .before .before .before
 
 each : (c : tie.Else1) → let a = start c .args in every (a .n) (idKeeps (a .words .now) (a .at)) ≡ true
 each c = yes _ (c .before .each-keeps .ensures .0) (c .if1 .left)
-
-hashes-apart-requires : tie.Need-hashes-apart-requires
-hashes-apart-requires c κs = search needs
 
 returns-2 : tie.Need-returns-2
 returns-2 c =
@@ -53,10 +44,10 @@ pub keep-apart-spec : {M : Type 1} → statement M
 keep-apart-spec =
     tie.close
     (tie.spec
-    first-hashes-requires
-    each-keeps-requires
+    (λ c κs. search needs)
+    (λ c κs. search needs)
     returns
-    hashes-apart-requires
+    (λ c κs. search needs)
     returns-2
     each-apart-requires
     returns-3)

@@ -19,8 +19,5 @@ keep-apart-requires c κs =
     let few = c .before .if1 .left in
     (few, c .before .before .before .pre few)
 
-returns-3 : tie.Need-returns-3
-returns-3 c = search needs
-
 pub keep-rules-spec : {M : Type 1} → statement M
-keep-rules-spec = tie.close (tie.spec returns returns-2 keep-apart-requires returns-3)
+keep-rules-spec = tie.close (tie.spec returns returns-2 keep-apart-requires (λ c. search needs))

@@ -17,9 +17,6 @@ Inv-loop state id count p₀ p = (p ≤ count) × NoneBelow (λ k. sameName (idI
 abbrev μ-loop : tie.MeasureT-loop
 μ-loop state id count p₀ p = count - p
 
-element-copy-out-count : tie.Need-element-copy-out-count Inv-loop μ-loop
-element-copy-out-count c = omega arith
-
 loop-holds : tie.Need-loop-holds Inv-loop μ-loop
 loop-holds c = (omega arith, none-first _)
 
@@ -72,9 +69,6 @@ returns c =
 add-p : tie.Need-add-p Inv-loop μ-loop
 add-p c = omega (arith, all-rules (c .before .before .before .before) .few)
 
-loop-less : tie.Need-loop-less Inv-loop μ-loop
-loop-less c = omega arith
-
 loop-again : tie.Need-loop-again Inv-loop μ-loop
 loop-again c =
     let l = c .before .before .before .before in
@@ -90,7 +84,7 @@ listed-id-spec =
     (tie.spec
     Inv-loop
     μ-loop
-    element-copy-out-count
+    (λ c. omega arith)
     loop-holds
     mul-d
     add-d
@@ -101,6 +95,6 @@ listed-id-spec =
     has-name-requires
     returns
     add-p
-    loop-less
+    (λ c. omega arith)
     loop-again
     returns-2)

@@ -6,22 +6,10 @@ use native.Mathlib.Omega.{arith}
 use Rattle.id_list.proofs.major_of.Statement.{statement}
 use Rattle.id_list.proofs.major_of.Tie as tie
 
-mul-result : tie.Need-mul-result
-mul-result c = omega arith
-
-add-result : tie.Need-add-result
-add-result c = omega arith
-
-mul-result-2 : tie.Need-mul-result-2
-mul-result-2 c = omega arith
-
-element-copy-out-result : tie.Need-element-copy-out-result
-element-copy-out-result c = omega arith
-
 returns : tie.Need-returns
 unfolding idIn
 returns c = refl
 
 pub major-of-spec : {M : Type 1} → statement M
 major-of-spec =
-    tie.close (tie.spec mul-result add-result mul-result-2 element-copy-out-result returns)
+    tie.close (tie.spec (λ c. omega arith) (λ c. omega arith) (λ c. omega arith) (λ c. omega arith) returns)

@@ -8,50 +8,20 @@ use borrow.Author.Needs.{needs}
 use Rattle.memory.proofs.answer.Statement.{statement}
 use Rattle.memory.proofs.answer.Tie as tie
 
-number-requires : tie.Need-number-requires
-number-requires c κs = search needs
-
-decode-requires : tie.Need-decode-requires
-decode-requires c κs = search needs
-
-right-form-requires : tie.Need-right-form-requires
-right-form-requires c κs = search needs
-
-error-requires : tie.Need-error-requires
-error-requires c κs = search needs
-
-same-length : tie.Need-same-length
-same-length c = search needs
-
 returns : tie.Need-returns
 returns c =
     rw (← form-error _ _ _ _ (c .before .before .before .before .before .before .before .number .ensures) (c .before .before .before .before .before .before .decode .ensures) (no _ (c .before .before .before .before .before .right-form .ensures) (c .before .before .before .before .if1 .taken)))
     (c .before .before .error .ensures _)
-
-rises-requires : tie.Need-rises-requires
-rises-requires c κs = search needs
-
-error-requires-2 : tie.Need-error-requires-2
-error-requires-2 c κs = search needs
-
-same-length-2 : tie.Need-same-length-2
-same-length-2 c = search needs
 
 returns-2 : tie.Need-returns-2
 returns-2 c =
     rw (← number-error _ _ _ _ (c .before .before .before .before .before .before .before .before .before .before .number .ensures) (c .before .before .before .before .before .before .before .before .before .decode .ensures) (no _ (c .before .before .before .before .before .rises .ensures) (c .before .before .before .before .if2 .taken)))
     (c .before .before .error2 .ensures _)
 
-set-number-requires : tie.Need-set-number-requires
-set-number-requires c κs = search needs
-
 dispatch-requires : tie.Need-dispatch-requires
 dispatch-requires c κs =
     let p = c .before .before .before .before .before .before .before .before .before .before .before .before .before .pre in
     (rw (c .before .before .set-number .ensures) (sound-numbers _ _ _ _ (p .2) (p .0)), omega (arith, p .1), c .before .before .before .before .before .before .before .before .before .decode .ensures)
-
-same-length-3 : tie.Need-same-length-3
-same-length-3 c = search needs
 
 returns-3 : tie.Need-returns-3
 returns-3 c =
@@ -62,17 +32,17 @@ pub answer-spec : {M : Type 1} → statement M
 answer-spec =
     tie.close
     (tie.spec
-    number-requires
-    decode-requires
-    right-form-requires
-    error-requires
-    same-length
+    (λ c κs. search needs)
+    (λ c κs. search needs)
+    (λ c κs. search needs)
+    (λ c κs. search needs)
+    (λ c. search needs)
     returns
-    rises-requires
-    error-requires-2
-    same-length-2
+    (λ c κs. search needs)
+    (λ c κs. search needs)
+    (λ c. search needs)
     returns-2
-    set-number-requires
+    (λ c κs. search needs)
     dispatch-requires
-    same-length-3
+    (λ c. search needs)
     returns-3)

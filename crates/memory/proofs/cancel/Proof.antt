@@ -6,18 +6,6 @@ use borrow.Author.Needs.{needs}
 use Rattle.memory.proofs.cancel.Statement.{statement}
 use Rattle.memory.proofs.cancel.Tie as tie
 
-put-bare-requires : tie.Need-put-bare-requires
-put-bare-requires c κs = search needs
-
-is-outstanding-requires : tie.Need-is-outstanding-requires
-is-outstanding-requires c κs = search needs
-
-answered-requires : tie.Need-answered-requires
-answered-requires c κs = search needs
-
-same-length : tie.Need-same-length
-same-length c = search needs
-
 abbrev replied : tie.After-is-outstanding → tie.After-put-bare
 replied c = c .before .before .before .before
 
@@ -27,26 +15,11 @@ tested c = c .before .before .before
 returns : tie.Need-returns
 returns c = let t = c .before .before in cancel-idle _ _ _ _ _ (replied t .put-bare .ensures) (no _ (t .is-outstanding .ensures) (c .before .if1 .taken)) (c .answered .ensures)
 
-is-cancelled-requires : tie.Need-is-cancelled-requires
-is-cancelled-requires c κs = search needs
-
-answered-requires-2 : tie.Need-answered-requires-2
-answered-requires-2 c κs = search needs
-
-same-length-2 : tie.Need-same-length-2
-same-length-2 c = search needs
-
 returns-2 : tie.Need-returns-2
 returns-2 c = let m = c .before .before in let t = tested m in cancel-again _ _ _ _ _ (replied t .put-bare .ensures) (yes _ (t .is-outstanding .ensures) (m .before .before .if1 .left)) (cancelled-is _ (m .is-cancelled .ensures) (c .before .if2 .taken)) (c .answered2 .ensures)
 
 mark-requires : tie.Need-mark-requires
 mark-requires c κs = let m = c .before .before in let t = tested m in let f = sound-facts _ (replied t .before .before .before .pre .0) .removal (yes _ (t .is-outstanding .ensures) (m .before .before .if1 .left)) in (f .one, f .flag)
-
-cancelled-requires : tie.Need-cancelled-requires
-cancelled-requires c κs = search needs
-
-same-length-3 : tie.Need-same-length-3
-same-length-3 c = search needs
 
 returns-3 : tie.Need-returns-3
 returns-3 c = let e = c .before .before .before in let m = e .before in let t = tested m in cancel-marks _ _ _ _ _ (replied t .put-bare .ensures) (yes _ (t .is-outstanding .ensures) (m .before .before .if1 .left)) (cancelled-is _ (m .is-cancelled .ensures) (e .if2 .left)) (c .before .mark .ensures) (c .cancelled .ensures)
@@ -55,16 +28,16 @@ pub cancel-spec : {M : Type 1} → statement M
 cancel-spec =
     tie.close
     (tie.spec
-    put-bare-requires
-    is-outstanding-requires
-    answered-requires
-    same-length
+    (λ c κs. search needs)
+    (λ c κs. search needs)
+    (λ c κs. search needs)
+    (λ c. search needs)
     returns
-    is-cancelled-requires
-    answered-requires-2
-    same-length-2
+    (λ c κs. search needs)
+    (λ c κs. search needs)
+    (λ c. search needs)
     returns-2
     mark-requires
-    cancelled-requires
-    same-length-3
+    (λ c κs. search needs)
+    (λ c. search needs)
     returns-3)

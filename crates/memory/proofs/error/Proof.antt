@@ -6,18 +6,9 @@ use borrow.Author.Needs.{needs}
 use Rattle.memory.proofs.error.Statement.{statement}
 use Rattle.memory.proofs.error.Tie as tie
 
-put-bare-requires : tie.Need-put-bare-requires
-put-bare-requires c κs = search needs
-
-answered-requires : tie.Need-answered-requires
-answered-requires c κs = search needs
-
-same-length : tie.Need-same-length
-same-length c = search needs
-
 returns : tie.Need-returns
 unfolding answering answeringError
 returns c = λ s. record { length′ = sym (memory-length _ _ _ _ []); notes = c .answered .ensures; state = refl; output = c .before .before .before .put-bare .ensures }
 
 pub error-spec : {M : Type 1} → statement M
-error-spec = tie.close (tie.spec put-bare-requires answered-requires same-length returns)
+error-spec = tie.close (tie.spec (λ c κs. search needs) (λ c κs. search needs) (λ c. search needs) returns)

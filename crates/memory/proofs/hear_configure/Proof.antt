@@ -5,15 +5,6 @@ use borrow.Author.Needs.{needs}
 use Rattle.memory.proofs.hear_configure.Statement.{statement}
 use Rattle.memory.proofs.hear_configure.Tie as tie
 
-is-outstanding-requires : tie.Need-is-outstanding-requires
-is-outstanding-requires c κs = search needs
-
-block-requires : tie.Need-block-requires
-block-requires c κs = search needs
-
-same-length : tie.Need-same-length
-same-length c = search needs
-
 abbrev taken : tie.After-slice-known2 → tie.Then1
 taken c = c .before .before .before .before .before
 
@@ -24,12 +15,6 @@ returns : tie.Need-returns
 unfolding requested pick
 returns c = let t = taken c in rw (sym (t .before .is-outstanding .ensures) ∙ t .if1 .taken) (c .before .before .block .ensures)
 
-configure-requires : tie.Need-configure-requires
-configure-requires c κs = search needs
-
-same-length-2 : tie.Need-same-length-2
-same-length-2 c = search needs
-
 returns-2 : tie.Need-returns-2
 unfolding requested pick
 returns-2 c = let t = left c in rw (sym (t .before .is-outstanding .ensures) ∙ t .if1 .left) (c .before .before .configure .ensures)
@@ -38,10 +23,10 @@ pub hear-configure-spec : {M : Type 1} → statement M
 hear-configure-spec =
     tie.close
     (tie.spec
-    is-outstanding-requires
-    block-requires
-    same-length
+    (λ c κs. search needs)
+    (λ c κs. search needs)
+    (λ c. search needs)
     returns
-    configure-requires
-    same-length-2
+    (λ c κs. search needs)
+    (λ c. search needs)
     returns-2)

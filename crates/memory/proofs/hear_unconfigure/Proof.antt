@@ -6,15 +6,6 @@ use borrow.Author.Needs.{needs}
 use Rattle.memory.proofs.hear_unconfigure.Statement.{statement}
 use Rattle.memory.proofs.hear_unconfigure.Tie as tie
 
-is-outstanding-requires : tie.Need-is-outstanding-requires
-is-outstanding-requires c κs = search needs
-
-block-requires : tie.Need-block-requires
-block-requires c κs = search needs
-
-same-length : tie.Need-same-length
-same-length c = search needs
-
 abbrev taken : tie.After-slice-known2 → tie.Then1
 taken c = c .before .before .before .before .before
 
@@ -25,9 +16,6 @@ returns : tie.Need-returns
 unfolding requested pick
 returns c = let t = taken c in rw (sym (t .before .is-outstanding .ensures) ∙ t .if1 .taken) (c .before .before .block .ensures)
 
-begin-requires : tie.Need-begin-requires
-begin-requires c κs = search needs
-
 returns-2 : tie.Need-returns-2
 unfolding requested pick
 returns-2 c = let t = left c in rw (sym (t .before .is-outstanding .ensures) ∙ t .if1 .left) (silent-handles _ (c .begin .ensures))
@@ -35,4 +23,4 @@ returns-2 c = let t = left c in rw (sym (t .before .is-outstanding .ensures) ∙
 pub hear-unconfigure-spec : {M : Type 1} → statement M
 hear-unconfigure-spec =
     tie.close
-    (tie.spec is-outstanding-requires block-requires same-length returns begin-requires returns-2)
+    (tie.spec (λ c κs. search needs) (λ c κs. search needs) (λ c. search needs) returns (λ c κs. search needs) returns-2)

@@ -23,20 +23,8 @@ loop-holds : tie.Need-loop-holds Inv-loop μ-loop
 unfolding joined
 loop-holds c = (omega arith, refl, refl)
 
-address-requires : tie.Need-address-requires Inv-loop μ-loop
-address-requires c κs = omega arith
-
-size-requires : tie.Need-size-requires Inv-loop μ-loop
-size-requires c κs = omega arith
-
 put-result-requires : tie.Need-put-result-requires Inv-loop μ-loop
 put-result-requires c κs = (omega arith, c .before .before .before .before .before .before .before .pre .0, omega arith)
-
-add-i : tie.Need-add-i Inv-loop μ-loop
-add-i c = omega arith
-
-loop-less : tie.Need-loop-less Inv-loop μ-loop
-loop-less c = omega arith
 
 loop-again : tie.Need-loop-again Inv-loop μ-loop
 loop-again c =
@@ -59,11 +47,11 @@ put-blocked-spec =
     Inv-loop
     μ-loop
     loop-holds
-    address-requires
-    size-requires
+    (λ c κs. omega arith)
+    (λ c κs. omega arith)
     put-result-requires
-    add-i
-    loop-less
+    (λ c. omega arith)
+    (λ c. omega arith)
     loop-again
     same-length
     returns)

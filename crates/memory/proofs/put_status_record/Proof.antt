@@ -6,31 +6,13 @@ use borrow.Author.Needs.{needs}
 use Rattle.memory.proofs.put_status_record.Statement.{statement}
 use Rattle.memory.proofs.put_status_record.Tie as tie
 
-position-of-requires : tie.Need-position-of-requires
-position-of-requires c κs = search needs
-
-count-of-requires : tie.Need-count-of-requires
-count-of-requires c κs = search needs
-
 size-of-requires : tie.Need-size-of-requires
 unfolding removalOf
 size-of-requires c κs = omega arith
 
-put64-requires : tie.Need-put64-requires
-put64-requires c κs = search needs
-
-collected-of-requires : tie.Need-collected-of-requires
-collected-of-requires c κs = search needs
-
 mul-put64 : tie.Need-mul-put64
 unfolding removalOf
 mul-put64 c = omega arith
-
-put64-requires-2 : tie.Need-put64-requires-2
-put64-requires-2 c κs = search needs
-
-same-length : tie.Need-same-length
-same-length c = search needs
 
 returns : tie.Need-returns
 returns c =
@@ -38,15 +20,6 @@ returns c =
     let p = s .before .before .before .before .before in
     let e = p .before .before .pre in
     told-some _ _ (e .2) (e .0) (p .position-of .ensures) (s .before .before .before .before .count-of .ensures) (s .before .before .before .if1 .taken) (s .before .size-of .ensures) (c .before .before .before .collected-of .ensures) (s .put64 .ensures) (c .before .before .put642 .ensures)
-
-put64-requires-3 : tie.Need-put64-requires-3
-put64-requires-3 c κs = search needs
-
-put64-requires-4 : tie.Need-put64-requires-4
-put64-requires-4 c κs = search needs
-
-same-length-2 : tie.Need-same-length-2
-same-length-2 c = search needs
 
 returns-2 : tie.Need-returns-2
 returns-2 c =
@@ -59,16 +32,16 @@ pub put-status-record-spec : {M : Type 1} → statement M
 put-status-record-spec =
     tie.close
     (tie.spec
-    position-of-requires
-    count-of-requires
+    (λ c κs. search needs)
+    (λ c κs. search needs)
     size-of-requires
-    put64-requires
-    collected-of-requires
+    (λ c κs. search needs)
+    (λ c κs. search needs)
     mul-put64
-    put64-requires-2
-    same-length
+    (λ c κs. search needs)
+    (λ c. search needs)
     returns
-    put64-requires-3
-    put64-requires-4
-    same-length-2
+    (λ c κs. search needs)
+    (λ c κs. search needs)
+    (λ c. search needs)
     returns-2)

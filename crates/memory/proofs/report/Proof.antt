@@ -11,50 +11,14 @@ use borrow.Author.Needs.{needs}
 use Rattle.memory.proofs.report.Statement.{statement}
 use Rattle.memory.proofs.report.Tie as tie
 
-is-outstanding-requires : tie.Need-is-outstanding-requires
-is-outstanding-requires c κs = search needs
-
-put-bare-requires : tie.Need-put-bare-requires
-put-bare-requires c κs = search needs
-
-answered-requires : tie.Need-answered-requires
-answered-requires c κs = search needs
-
-same-length : tie.Need-same-length
-same-length c = search needs
-
 returns : tie.Need-returns
 returns c = let b = c .before .before .before in report-none _ _ _ _ _ (no _ (b .before .before .before .is-outstanding .ensures) (b .before .before .if1 .taken)) (c .answered .ensures) (b .put-bare .ensures)
-
-put-header-requires : tie.Need-put-header-requires
-put-header-requires c κs = search needs
-
-add-put-status-record : tie.Need-add-put-status-record
-add-put-status-record c = search needs
-
-sub-put-status-record : tie.Need-sub-put-status-record
-sub-put-status-record c = search needs
-
-part-put-status-record-start : tie.Need-part-put-status-record-start
-part-put-status-record-start c = search needs
-
-part-put-status-record-end : tie.Need-part-put-status-record-end
-part-put-status-record-end c = search needs
 
 abbrev headed : tie.After-put-status-record-arg → tie.After-put-header
 headed c = c .before .before .before
 
 put-status-record-requires : tie.Need-put-status-record-requires
 put-status-record-requires c κs = let h = headed c in let f = removal-fits _ (h .before .before .before .before .before .pre .0) (yes _ (h .before .before .before .is-outstanding .ensures) (h .before .before .if1 .left)) in (f .0, f .1, simp (length-take, length-drop) (omega arith))
-
-add-t16 : tie.Need-add-t16
-add-t16 c = search needs
-
-answered-requires-2 : tie.Need-answered-requires-2
-answered-requires-2 c κs = search needs
-
-same-length-2 : tie.Need-same-length-2
-same-length-2 c = search needs
 
 returns-2 : tie.Need-returns-2
 returns-2 c = let p = c .before .before .before in let h = headed (p .before) in let s = h .before .before .before .before .before in report-some _ _ _ _ _ (yes _ (h .before .before .before .is-outstanding .ensures) (h .before .before .if1 .left)) (c .answered2 .ensures) (s .pre .1) (h .put-header .ensures) (rw (p .put-status-record .ensures) (part-sets (h .put-header .last .0) (statusRecord (removalOf (s .args .state .now))) replyHeaderBytes statusBytes (status-length (removalOf (s .args .state .now))) (omega arith)))
@@ -63,18 +27,18 @@ pub report-spec : {M : Type 1} → statement M
 report-spec =
     tie.close
     (tie.spec
-    is-outstanding-requires
-    put-bare-requires
-    answered-requires
-    same-length
+    (λ c κs. search needs)
+    (λ c κs. search needs)
+    (λ c κs. search needs)
+    (λ c. search needs)
     returns
-    put-header-requires
-    add-put-status-record
-    sub-put-status-record
-    part-put-status-record-start
-    part-put-status-record-end
+    (λ c κs. search needs)
+    (λ c. search needs)
+    (λ c. search needs)
+    (λ c. search needs)
+    (λ c. search needs)
     put-status-record-requires
-    add-t16
-    answered-requires-2
-    same-length-2
+    (λ c. search needs)
+    (λ c κs. search needs)
+    (λ c. search needs)
     returns-2)

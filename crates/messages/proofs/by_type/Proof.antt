@@ -13,16 +13,10 @@ use Rattle.messages.proofs.by_type.Tie as tie
 get32-requires : tie.Need-get32-requires
 get32-requires c κs = let w = well-rules _ (c .before .pre) in omega arith
 
-cast-message-type : tie.Need-cast-message-type
-cast-message-type c = search needs
-
 get16-requires : tie.Need-get16-requires
 get16-requires c κs = let w = well-rules _ (c .before .before .before .pre) in
     let p = init-payload _ (w .1) (sym (c .before .get32 .ensures .0) ∙ c .if1 .taken) in
     omega arith
-
-cast-t7 : tie.Need-cast-t7
-cast-t7 c = search needs
 
 returns : tie.Need-returns
 unfolding decodedByType pick
@@ -37,9 +31,6 @@ get16-requires-2 : tie.Need-get16-requires-2
 get16-requires-2 c κs = let w = well-rules _ (c .before .before .before .before .before .pre) in
     let p = ack-payload _ (w .1) (sym (c .before .before .before .get32 .ensures .0) ∙ c .match .keys2) in
     omega arith
-
-cast-t10 : tie.Need-cast-t10
-cast-t10 c = search needs
 
 returns-2 : tie.Need-returns-2
 unfolding decodedByType pick
@@ -96,13 +87,13 @@ by-type-spec =
     tie.close
     (tie.spec
     get32-requires
-    cast-message-type
+    (λ c. search needs)
     get16-requires
-    cast-t7
+    (λ c. search needs)
     returns
     handle-of-requires
     get16-requires-2
-    cast-t10
+    (λ c. search needs)
     returns-2
     returns-3
     returns-4

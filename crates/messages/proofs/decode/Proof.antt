@@ -9,9 +9,6 @@ use Rattle.model.proofs.Choice.{join}
 use Rattle.messages.proofs.decode.Statement.{statement}
 use Rattle.messages.proofs.decode.Tie as tie
 
-whole-message-requires : tie.Need-whole-message-requires
-whole-message-requires c κs = search needs
-
 returns : tie.Need-returns
 unfolding decoded wellFormed pick _and_
 returns c = rw (sym (c .before .whole-message .ensures) ∙ not-true _ (c .if1 .taken))
@@ -41,7 +38,7 @@ pub decode-spec : {M : Type 1} → statement M
 decode-spec =
     tie.close
     (tie.spec
-    whole-message-requires
+    (λ c κs. search needs)
     returns
     payload-fits-requires
     returns-2

@@ -16,9 +16,6 @@ returns c = refute _ (λ t. let r = id-rules _ t in omega arith)
 returns-2 : tie.Need-returns-2
 returns-2 c = refute _ (λ t. let r = id-rules _ t in omega arith)
 
-add-if3 : tie.Need-add-if3
-add-if3 c = search needs
-
 shared-slice-read-if3 : tie.Need-shared-slice-read-if3
 shared-slice-read-if3 c =
     let r = whole-rules _ (c .before .before .before .before .pre .0) in omega arith
@@ -43,4 +40,4 @@ returns-4 c =
 pub id-fits-spec : {M : Type 1} → statement M
 id-fits-spec =
     tie.close
-    (tie.spec returns returns-2 add-if3 shared-slice-read-if3 returns-3 no-zero-requires returns-4)
+    (tie.spec returns returns-2 (λ c. search needs) shared-slice-read-if3 returns-3 no-zero-requires returns-4)

@@ -12,14 +12,8 @@ use Rattle.messages.proofs.payload_fits.Tie as tie
 get32-requires : tie.Need-get32-requires
 get32-requires c κs = let w = whole-rules _ (c .before .pre) in omega arith
 
-cast-message-type : tie.Need-cast-message-type
-cast-message-type c = search needs
-
 get32-requires-2 : tie.Need-get32-requires-2
 get32-requires-2 c κs = let w = whole-rules _ (c .before .before .pre) in omega arith
-
-id-fits-requires : tie.Need-id-fits-requires
-id-fits-requires c κs = search needs
 
 returns : tie.Need-returns
 unfolding payloadFits pick
@@ -60,9 +54,9 @@ payload-fits-spec =
     tie.close
     (tie.spec
     get32-requires
-    cast-message-type
+    (λ c. search needs)
     get32-requires-2
-    id-fits-requires
+    (λ c κs. search needs)
     returns
     returns-2
     returns-3

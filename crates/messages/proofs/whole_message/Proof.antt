@@ -11,18 +11,12 @@ use Rattle.messages.proofs.whole_message.Tie as tie
 returns : tie.Need-returns
 returns c = refute _ (λ t. let r = whole-rules _ t in omega arith)
 
-get32-requires : tie.Need-get32-requires
-get32-requires c κs = search needs
-
 returns-2 : tie.Need-returns-2
 returns-2 c = refute _ (λ t. let r = whole-rules _ t in omega arith)
-
-add-result : tie.Need-add-result
-add-result c = search needs
 
 returns-3 : tie.Need-returns-3
 returns-3 c =
     let read = c .before .get32 .ensures .0 in rw (read) (sym (whole-last _ (omega arith)))
 
 pub whole-message-spec : {M : Type 1} → statement M
-whole-message-spec = tie.close (tie.spec returns get32-requires returns-2 add-result returns-3)
+whole-message-spec = tie.close (tie.spec returns (λ c κs. search needs) returns-2 (λ c. search needs) returns-3)

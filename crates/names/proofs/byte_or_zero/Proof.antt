@@ -7,9 +7,6 @@ use native.Mathlib.Omega.{arith}
 use Rattle.names.proofs.byte_or_zero.Statement.{statement}
 use Rattle.names.proofs.byte_or_zero.Tie as tie
 
-shared-slice-read-result : tie.Need-shared-slice-read-result
-shared-slice-read-result c = omega arith
-
 cast-result : tie.Need-cast-result
 cast-result c = omega (arith, c .shared-slice-known .given (c .before .before .args .i))
 
@@ -22,4 +19,4 @@ returns-2 : tie.Need-returns-2
 returns-2 c = (sym (byte-past _ _ (c .if1 .left)), omega arith)
 
 pub byte-or-zero-spec : {M : Type 1} → statement M
-byte-or-zero-spec = tie.close (tie.spec shared-slice-read-result cast-result returns returns-2)
+byte-or-zero-spec = tie.close (tie.spec (λ c. omega arith) cast-result returns returns-2)

@@ -9,12 +9,6 @@ use Rattle.names.proofs.has_name.Tie as tie
 returns : tie.Need-returns
 returns c = length-differs _ _ _ _ (λ e. omega arith)
 
-sub-count : tie.Need-sub-count
-sub-count c = omega arith
-
-add-count : tie.Need-add-count
-add-count c = omega arith
-
 has-bytes-requires : tie.Need-has-bytes-requires
 has-bytes-requires c κs = (omega arith, omega arith)
 
@@ -24,4 +18,4 @@ returns-2 c =
     c .has-bytes .ensures ∙ same-words _ _ _ (p .0) (p .2) _ (omega arith)
 
 pub has-name-spec : {M : Type 1} → statement M
-has-name-spec = tie.close (tie.spec returns sub-count add-count has-bytes-requires returns-2)
+has-name-spec = tie.close (tie.spec returns (λ c. omega arith) (λ c. omega arith) has-bytes-requires returns-2)

@@ -24,33 +24,9 @@ returns c = (refute _ (λ t. let r = name-rules _ _ _ _ t in omega arith), λ t.
 returns-2 : tie.Need-returns-2
 returns-2 c = (refute _ (λ t. let r = name-rules _ _ _ _ t in omega arith), λ t. absurd (clash _ refl t))
 
-sub-last : tie.Need-sub-last
-sub-last c = omega arith
-
-pass-words-requires : tie.Need-pass-words-requires
-pass-words-requires c κs = search needs
-
 returns-3 : tie.Need-returns-3
 returns-3 c = let p = c .before .before in
     (sym (and-false _ _ (sym (p .pass-words .ensures .0) ∙ ne-eqb _ 0 (c .if3 .taken))) ∙ name-words _ _ _ _ (some p) (p .before .if2 .left), λ t. absurd (clash _ refl t))
-
-add-word : tie.Need-add-word
-add-word c = search needs
-
-mul-word : tie.Need-mul-word
-mul-word c = search needs
-
-shared-slice-read-word : tie.Need-shared-slice-read-word
-shared-slice-read-word c = search needs
-
-sub-end : tie.Need-sub-end
-sub-end c = omega arith
-
-last-word-keeps-requires : tie.Need-last-word-keeps-requires
-last-word-keeps-requires c κs = search needs
-
-mixed-requires : tie.Need-mixed-requires
-mixed-requires c κs = search needs
 
 returns-4 : tie.Need-returns-4
 unfolding hashOf mixedWords
@@ -65,13 +41,13 @@ hashed-name-spec =
     (tie.spec
     returns
     returns-2
-    sub-last
-    pass-words-requires
+    (λ c. omega arith)
+    (λ c κs. search needs)
     returns-3
-    add-word
-    mul-word
-    shared-slice-read-word
-    sub-end
-    last-word-keeps-requires
-    mixed-requires
+    (λ c. search needs)
+    (λ c. search needs)
+    (λ c. search needs)
+    (λ c. omega arith)
+    (λ c κs. search needs)
+    (λ c κs. search needs)
     returns-4)

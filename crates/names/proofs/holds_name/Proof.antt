@@ -16,26 +16,11 @@ returns c = refute _ (λ t. let r = name-rules _ _ _ _ t in omega arith)
 returns-2 : tie.Need-returns-2
 returns-2 c = refute _ (λ t. let r = name-rules _ _ _ _ t in omega arith)
 
-whole-words-requires : tie.Need-whole-words-requires
-whole-words-requires c κs = omega arith
-
 returns-3 : tie.Need-returns-3
 returns-3 c =
     let w = c .before in
     sym (and-false _ _ (no _ (w .whole-words .ensures) (c .if3 .taken)))
     ∙ name-words _ _ _ _ (w .before .before .if1 .left) (w .before .if2 .left)
-
-add-last-word-keeps : tie.Need-add-last-word-keeps
-add-last-word-keeps c = omega arith
-
-mul-last-word-keeps : tie.Need-mul-last-word-keeps
-mul-last-word-keeps c = omega arith
-
-shared-slice-read-last-word-keeps : tie.Need-shared-slice-read-last-word-keeps
-shared-slice-read-last-word-keeps c = omega arith
-
-last-word-keeps-requires : tie.Need-last-word-keeps-requires
-last-word-keeps-requires c κs = search needs
 
 returns-4 : tie.Need-returns-4
 returns-4 c =
@@ -51,10 +36,10 @@ holds-name-spec =
     (tie.spec
     returns
     returns-2
-    whole-words-requires
+    (λ c κs. omega arith)
     returns-3
-    add-last-word-keeps
-    mul-last-word-keeps
-    shared-slice-read-last-word-keeps
-    last-word-keeps-requires
+    (λ c. omega arith)
+    (λ c. omega arith)
+    (λ c. omega arith)
+    (λ c κs. search needs)
     returns-4)

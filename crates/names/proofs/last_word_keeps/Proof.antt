@@ -7,20 +7,11 @@ use borrow.Author.Needs.{needs}
 use Rattle.names.proofs.last_word_keeps.Statement.{statement}
 use Rattle.names.proofs.last_word_keeps.Tie as tie
 
-mul-rest : tie.Need-mul-rest
-mul-rest c = search needs
-
-shr-rest : tie.Need-shr-rest
-shr-rest c = search needs
-
 returns : tie.Need-returns
 returns c = rest-fails _ _ (c .before .pre) (λ z. omega arith) (omega arith)
-
-zero-bytes-requires : tie.Need-zero-bytes-requires
-zero-bytes-requires c κs = search needs
 
 returns-2 : tie.Need-returns-2
 returns-2 c = c .zero-bytes .ensures ∙ rest-law _ _ (c .before .before .pre) (omega arith)
 
 pub last-word-keeps-spec : {M : Type 1} → statement M
-last-word-keeps-spec = tie.close (tie.spec mul-rest shr-rest returns zero-bytes-requires returns-2)
+last-word-keeps-spec = tie.close (tie.spec (λ c. search needs) (λ c. search needs) returns (λ c κs. search needs) returns-2)

@@ -23,26 +23,11 @@ loop-holds : tie.Need-loop-holds Inv-loop μ-loop
 unfolding every mixedWords
 loop-holds c = (omega arith, refl, refl)
 
-add-word : tie.Need-add-word Inv-loop μ-loop
-add-word c = omega arith
-
-mul-word : tie.Need-mul-word Inv-loop μ-loop
-mul-word c = omega arith
-
-shared-slice-read-word : tie.Need-shared-slice-read-word Inv-loop μ-loop
-shared-slice-read-word c = omega arith
-
 zero-bytes-requires : tie.Need-zero-bytes-requires Inv-loop μ-loop
 zero-bytes-requires c κs = tt
 
 mixed-requires : tie.Need-mixed-requires Inv-loop μ-loop
 mixed-requires c κs = tt
-
-add-q : tie.Need-add-q Inv-loop μ-loop
-add-q c = omega arith
-
-loop-less : tie.Need-loop-less Inv-loop μ-loop
-loop-less c = omega arith
 
 loop-again : tie.Need-loop-again Inv-loop μ-loop
 unfolding every mixedWords
@@ -62,12 +47,12 @@ pass-words-spec =
     Inv-loop
     μ-loop
     loop-holds
-    add-word
-    mul-word
-    shared-slice-read-word
+    (λ c. omega arith)
+    (λ c. omega arith)
+    (λ c. omega arith)
     zero-bytes-requires
     mixed-requires
-    add-q
-    loop-less
+    (λ c. omega arith)
+    (λ c. omega arith)
     loop-again
     returns)

@@ -9,12 +9,6 @@ use Rattle.names.proofs.same_names.Tie as tie
 returns : tie.Need-returns
 returns c = lengths-differ _ _ _ _ _ (λ e. omega arith)
 
-sub-count : tie.Need-sub-count
-sub-count c = omega arith
-
-add-count : tie.Need-add-count
-add-count c = omega arith
-
 same-words-requires : tie.Need-same-words-requires
 same-words-requires c κs = (omega arith, omega arith)
 
@@ -24,4 +18,4 @@ returns-2 c =
     c .same-words .ensures ∙ pair-words _ _ _ _ _ (p .0) (p .3) (p .4) (omega arith)
 
 pub same-names-spec : {M : Type 1} → statement M
-same-names-spec = tie.close (tie.spec returns sub-count add-count same-words-requires returns-2)
+same-names-spec = tie.close (tie.spec returns (λ c. omega arith) (λ c. omega arith) same-words-requires returns-2)

@@ -22,23 +22,8 @@ loop-holds : tie.Need-loop-holds Inv-loop μ-loop
 unfolding every
 loop-holds c = (omega arith, refl)
 
-add-zero-bytes : tie.Need-add-zero-bytes Inv-loop μ-loop
-add-zero-bytes c = omega arith
-
-mul-zero-bytes : tie.Need-mul-zero-bytes Inv-loop μ-loop
-mul-zero-bytes c = omega arith
-
-shared-slice-read-zero-bytes : tie.Need-shared-slice-read-zero-bytes Inv-loop μ-loop
-shared-slice-read-zero-bytes c = omega arith
-
 zero-bytes-requires : tie.Need-zero-bytes-requires Inv-loop μ-loop
 zero-bytes-requires c κs = tt
-
-add-q : tie.Need-add-q Inv-loop μ-loop
-add-q c = omega arith
-
-loop-less : tie.Need-loop-less Inv-loop μ-loop
-loop-less c = omega arith
 
 loop-again : tie.Need-loop-again Inv-loop μ-loop
 unfolding every
@@ -58,11 +43,11 @@ whole-words-spec =
     Inv-loop
     μ-loop
     loop-holds
-    add-zero-bytes
-    mul-zero-bytes
-    shared-slice-read-zero-bytes
+    (λ c. omega arith)
+    (λ c. omega arith)
+    (λ c. omega arith)
     zero-bytes-requires
-    add-q
-    loop-less
+    (λ c. omega arith)
+    (λ c. omega arith)
     loop-again
     returns)

@@ -14,29 +14,14 @@ shutdown-bytes : {v : ℕ} → v ≡ shutdownService → orderBytes v ≡ shutdo
 unfolding orderBytes pick
 shutdown-bytes e = rw (eq-eqb _ _ e)
 
-number-of-requires : tie.Need-number-of-requires
-number-of-requires c κs = search needs
-
 get32-requires : tie.Need-get32-requires
 get32-requires c κs = omega (arith, shutdown-bytes (c .if1 .taken))
-
-leave-requires : tie.Need-leave-requires
-leave-requires c κs = search needs
-
-same-length : tie.Need-same-length
-same-length c = search needs
 
 returns : tie.Need-returns
 unfolding orderingFor pick
 returns c =
     let c₅ : _ = c .before .before .before .before .before in
     rw (eq-eqb _ _ (c₅ .before .if1 .taken), ← c₅ .before .before .number-of .ensures, ← c₅ .get32 .ensures .0) (c .before .before .leave .ensures)
-
-leave-requires-2 : tie.Need-leave-requires-2
-leave-requires-2 c κs = search needs
-
-same-length-2 : tie.Need-same-length-2
-same-length-2 c = search needs
 
 returns-2 : tie.Need-returns-2
 unfolding orderingFor pick
@@ -48,11 +33,11 @@ pub leave-for-spec : {M : Type 1} → statement M
 leave-for-spec =
     tie.close
     (tie.spec
-    number-of-requires
+    (λ c κs. search needs)
     get32-requires
-    leave-requires
-    same-length
+    (λ c κs. search needs)
+    (λ c. search needs)
     returns
-    leave-requires-2
-    same-length-2
+    (λ c κs. search needs)
+    (λ c. search needs)
     returns-2)

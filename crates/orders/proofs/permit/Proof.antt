@@ -4,15 +4,6 @@ use borrow.Author.Needs.{needs}
 use Rattle.orders.proofs.permit.Statement.{statement}
 use Rattle.orders.proofs.permit.Tie as tie
 
-word-of-requires : tie.Need-word-of-requires
-word-of-requires c κs = search needs
-
-set-permission-requires : tie.Need-set-permission-requires
-set-permission-requires c κs = search needs
-
-permitted-requires : tie.Need-permitted-requires
-permitted-requires c κs = search needs
-
 returns : tie.Need-returns
 unfolding permitting
 returns c =
@@ -21,4 +12,4 @@ returns c =
 
 pub permit-spec : {M : Type 1} → statement M
 permit-spec =
-    tie.close (tie.spec word-of-requires set-permission-requires permitted-requires returns)
+    tie.close (tie.spec (λ c κs. search needs) (λ c κs. search needs) (λ c κs. search needs) returns)

@@ -4,15 +4,9 @@ use borrow.Author.Needs.{needs}
 use Rattle.orders.proofs.take.Statement.{statement}
 use Rattle.orders.proofs.take.Tie as tie
 
-set-order-requires : tie.Need-set-order-requires
-set-order-requires c κs = search needs
-
-taken-requires : tie.Need-taken-requires
-taken-requires c κs = search needs
-
 returns : tie.Need-returns
 unfolding taking
 returns c = record { noReply = refl; length′ = refl; notes = c .taken .ensures; state = c .before .set-order .ensures }
 
 pub take-spec : {M : Type 1} → statement M
-take-spec = tie.close (tie.spec set-order-requires taken-requires returns)
+take-spec = tie.close (tie.spec (λ c κs. search needs) (λ c κs. search needs) returns)

@@ -29,12 +29,6 @@ add-n c =
     let a = c .before .before .before .args in
     omega (arith, c .mark-of .ensures, bit-few (marksAt (a .state .now) (a .channel)) (c .before .before .loop .p))
 
-add-p : tie.Need-add-p Inv-loop μ-loop
-add-p c = omega arith
-
-loop-less : tie.Need-loop-less Inv-loop μ-loop
-loop-less c = omega arith
-
 loop-again : tie.Need-loop-again Inv-loop μ-loop
 loop-again c =
     let l = c .before .before .loop in
@@ -49,4 +43,4 @@ returns c =
 pub count-spec : {M : Type 1} → statement M
 count-spec =
     tie.close
-    (tie.spec Inv-loop μ-loop loop-holds mark-of-requires add-n add-p loop-less loop-again returns)
+    (tie.spec Inv-loop μ-loop loop-holds mark-of-requires add-n (λ c. omega arith) (λ c. omega arith) loop-again returns)

@@ -7,18 +7,12 @@ use borrow.Author.Needs.{needs}
 use Rattle.peers.proofs.differs.Statement.{statement}
 use Rattle.peers.proofs.differs.Tie as tie
 
-handle-of-requires : tie.Need-handle-of-requires
-handle-of-requires c κs = search needs
-
 returns : tie.Need-returns
 returns c = rw (← c .before .handle-of .ensures, ne-eqb _ _ (c .if1 .taken)) (sym (or-true _))
-
-mark-of-requires : tie.Need-mark-of-requires
-mark-of-requires c κs = search needs
 
 returns-2 : tie.Need-returns-2
 returns-2 c =
     rw (← c .before .before .handle-of .ensures, ← c .mark-of .ensures, eq-eqb _ _ (c .before .if1 .left)) (sym (or-none _))
 
 pub differs-spec : {M : Type 1} → statement M
-differs-spec = tie.close (tie.spec handle-of-requires returns mark-of-requires returns-2)
+differs-spec = tie.close (tie.spec (λ c κs. search needs) returns (λ c κs. search needs) returns-2)

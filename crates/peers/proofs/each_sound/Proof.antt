@@ -17,12 +17,6 @@ Inv-loop state channel ready p₀ p = (p ≤ mostIds) × (every p (peerSound sta
 abbrev μ-loop : tie.MeasureT-loop
 μ-loop state channel ready p₀ p = mostIds - p
 
-mul-ready : tie.Need-mul-ready Inv-loop μ-loop
-mul-ready c = omega arith
-
-element-copy-out-ready : tie.Need-element-copy-out-ready Inv-loop μ-loop
-element-copy-out-ready c = omega arith
-
 loop-holds : tie.Need-loop-holds Inv-loop μ-loop
 loop-holds c = (omega arith, every-none _)
 
@@ -31,12 +25,6 @@ peer-sound-requires c κs = (omega arith, omega arith)
 
 returns : tie.Need-returns Inv-loop μ-loop
 returns c = every-fails _ _ _ (c .before .before .loop-test .taken) (no _ (c .before .peer-sound .ensures) (c .if1 .taken))
-
-add-p : tie.Need-add-p Inv-loop μ-loop
-add-p c = omega arith
-
-loop-less : tie.Need-loop-less Inv-loop μ-loop
-loop-less c = omega arith
 
 loop-again : tie.Need-loop-again Inv-loop μ-loop
 loop-again c = (omega arith, every-more _ _ (c .before .before .before .loop .inv .1) (yes _ (c .before .peer-sound .ensures) (c .if1 .left)))
@@ -50,12 +38,12 @@ each-sound-spec =
     (tie.spec
     Inv-loop
     μ-loop
-    mul-ready
-    element-copy-out-ready
+    (λ c. omega arith)
+    (λ c. omega arith)
     loop-holds
     peer-sound-requires
     returns
-    add-p
-    loop-less
+    (λ c. omega arith)
+    (λ c. omega arith)
     loop-again
     returns-2)

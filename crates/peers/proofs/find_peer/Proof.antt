@@ -26,12 +26,6 @@ returns c =
     found-here _ _ _ (c .before .before .before .loop .inv .1) (c .before .before .loop-test .taken)
     (sym (c .before .peered-as .ensures) ∙ c .if1 .taken)
 
-add-p : tie.Need-add-p Inv-loop μ-loop
-add-p c = omega arith
-
-loop-less : tie.Need-loop-less Inv-loop μ-loop
-loop-less c = omega arith
-
 loop-again : tie.Need-loop-again Inv-loop μ-loop
 loop-again c =
     (omega arith, none-more _ _ (c .before .before .before .loop .inv .1) (sym (c .before .peered-as .ensures) ∙ c .if1 .left))
@@ -48,7 +42,7 @@ find-peer-spec =
     loop-holds
     peered-as-requires
     returns
-    add-p
-    loop-less
+    (λ c. omega arith)
+    (λ c. omega arith)
     loop-again
     returns-2)

@@ -38,12 +38,6 @@ handle-of-requires-2 c κs = (omega arith, omega arith)
 returns-2 : tie.Need-returns-2 Inv-loop μ-loop
 returns-2 c e = absurd (clash false refl e)
 
-add-j : tie.Need-add-j Inv-loop μ-loop
-add-j c = omega arith
-
-loop-less : tie.Need-loop-less Inv-loop μ-loop
-loop-less c = omega arith
-
 loop-again : tie.Need-loop-again Inv-loop μ-loop
 loop-again c =
     (omega arith, every-more _ _ (c .before .before .before .loop .inv .1) (rw (← c .before .handle-of2 .ensures, ne-eqb _ _ (c .if2 .left)) (or-true _)))
@@ -66,7 +60,7 @@ handle-alone-spec =
     loop-holds
     handle-of-requires-2
     returns-2
-    add-j
-    loop-less
+    (λ c. omega arith)
+    (λ c. omega arith)
     loop-again
     returns-3)

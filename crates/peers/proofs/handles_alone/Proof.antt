@@ -28,12 +28,6 @@ handle-alone-requires c κs = (omega arith, omega arith)
 returns : tie.Need-returns Inv-loop μ-loop
 returns c e = absurd (clash false refl e)
 
-add-p : tie.Need-add-p Inv-loop μ-loop
-add-p c = omega arith
-
-loop-less : tie.Need-loop-less Inv-loop μ-loop
-loop-less c = omega arith
-
 loop-again : tie.Need-loop-again Inv-loop μ-loop
 loop-again c =
     (omega arith, every-more _ _ (c .before .before .before .loop .inv .1) (c .before .handle-alone .ensures (not-false _ (c .if1 .left))))
@@ -50,7 +44,7 @@ handles-alone-spec =
     loop-holds
     handle-alone-requires
     returns
-    add-p
-    loop-less
+    (λ c. omega arith)
+    (λ c. omega arith)
     loop-again
     returns-2)

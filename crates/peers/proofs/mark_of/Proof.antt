@@ -5,15 +5,9 @@ use borrow.Author.Needs.{needs}
 use Rattle.peers.proofs.mark_of.Statement.{statement}
 use Rattle.peers.proofs.mark_of.Tie as tie
 
-marks-of-requires : tie.Need-marks-of-requires
-marks-of-requires c κs = search needs
-
-shr-result : tie.Need-shr-result
-shr-result c = search needs
-
 returns : tie.Need-returns
 unfolding bitOf
 returns c = rw (c .marks-of .ensures)
 
 pub mark-of-spec : {M : Type 1} → statement M
-mark-of-spec = tie.close (tie.spec marks-of-requires shr-result returns)
+mark-of-spec = tie.close (tie.spec (λ c κs. search needs) (λ c. search needs) returns)

@@ -7,11 +7,8 @@ use borrow.Author.Needs.{needs}
 use Rattle.peers.proofs.none_marked.Statement.{statement}
 use Rattle.peers.proofs.none_marked.Tie as tie
 
-marks-of-requires : tie.Need-marks-of-requires
-marks-of-requires c κs = search needs
-
 returns : tie.Need-returns
 returns c = λ t p. rw (sym (c .marks-of .ensures) ∙ eqb-true _ 0 t) (no-bit p)
 
 pub none-marked-spec : {M : Type 1} → statement M
-none-marked-spec = tie.close (tie.spec marks-of-requires returns)
+none-marked-spec = tie.close (tie.spec (λ c κs. search needs) returns)

@@ -21,15 +21,6 @@ abbrev μ-loop : tie.MeasureT-loop
 loop-holds : tie.Need-loop-holds Inv-loop μ-loop
 loop-holds c = (omega arith, λ _ i h. absurd (omega arith))
 
-none-marked-requires : tie.Need-none-marked-requires Inv-loop μ-loop
-none-marked-requires c κs = omega arith
-
-add-c : tie.Need-add-c Inv-loop μ-loop
-add-c c = omega arith
-
-loop-less : tie.Need-loop-less Inv-loop μ-loop
-loop-less c = omega arith
-
 -- one channel more
 next : (f : ℕ → ℕ → ℕ) (n : ℕ) → ((i : ℕ) → i < n → (p : ℕ) → f i p ≡ 0) → ((p : ℕ) → f n p ≡ 0) → (i : ℕ) → i < n + 1 → (p : ℕ) → f i p ≡ 0
 next f n before here i h p = go (eqb i n) refl
@@ -60,8 +51,8 @@ none-registered-spec =
     Inv-loop
     μ-loop
     loop-holds
-    none-marked-requires
-    add-c
-    loop-less
+    (λ c κs. omega arith)
+    (λ c. omega arith)
+    (λ c. omega arith)
     loop-again
     returns)

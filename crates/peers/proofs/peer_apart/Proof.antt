@@ -42,12 +42,6 @@ returns-2 : tie.Need-returns-2 Inv-loop μ-loop
 returns-2 c =
     every-fails _ _ _ (c .before .before .loop-test .taken) (no _ (c .before .differs .ensures) (c .if2 .taken)) ∙ marked (c .before .before .before .before)
 
-add-q : tie.Need-add-q Inv-loop μ-loop
-add-q c = omega arith
-
-loop-less : tie.Need-loop-less Inv-loop μ-loop
-loop-less c = omega arith
-
 loop-again : tie.Need-loop-again Inv-loop μ-loop
 loop-again c = (omega arith, every-more _ _ (c .before .before .before .loop .inv .1) (yes _ (c .before .differs .ensures) (c .if2 .left)))
 
@@ -67,7 +61,7 @@ peer-apart-spec =
     loop-holds
     differs-requires
     returns-2
-    add-q
-    loop-less
+    (λ c. omega arith)
+    (λ c. omega arith)
     loop-again
     returns-3)

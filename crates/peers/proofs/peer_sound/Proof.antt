@@ -10,9 +10,6 @@ use borrow.Author.Needs.{needs}
 use Rattle.peers.proofs.peer_sound.Statement.{statement}
 use Rattle.peers.proofs.peer_sound.Tie as tie
 
-mark-of-requires : tie.Need-mark-of-requires
-mark-of-requires c κs = search needs
-
 returns : tie.Need-returns
 returns c = sym (unmarked _ _ _ _ (sym (c .before .mark-of .ensures) ∙ c .if1 .taken))
 
@@ -23,14 +20,8 @@ marked c e = c .if1 .left (c .before .mark-of .ensures ∙ e)
 returns-2 : tie.Need-returns-2
 returns-2 c = refute _ (λ t. let r = registered _ _ _ _ (marked (c .before)) t in omega (arith, r .isReady))
 
-element-copy-out-if3 : tie.Need-element-copy-out-if3
-element-copy-out-if3 c = search needs
-
 returns-3 : tie.Need-returns-3
 returns-3 c = refute _ (λ t. let r = registered _ _ _ _ (marked (c .before .before .before)) t in omega (arith, r .listed))
-
-handle-of-requires : tie.Need-handle-of-requires
-handle-of-requires c κs = search needs
 
 returns-4 : tie.Need-returns-4
 returns-4 c = refute _ (λ t. let r = registered _ _ _ _ (marked (c .before .before .before .before .before)) t in omega (arith, r .handle, c .before .handle-of .ensures))
@@ -44,24 +35,6 @@ all c = record {
   handle = omega (arith, c .before .handle-of .ensures);
 }
 
-minor-of-requires : tie.Need-minor-of-requires
-minor-of-requires c κs = search needs
-
-mul-result : tie.Need-mul-result
-mul-result c = search needs
-
-add-result : tie.Need-add-result
-add-result c = search needs
-
-add-result-2 : tie.Need-add-result-2
-add-result-2 c = search needs
-
-mul-result-2 : tie.Need-mul-result-2
-mul-result-2 c = search needs
-
-element-copy-out-result : tie.Need-element-copy-out-result
-element-copy-out-result c = search needs
-
 returns-5 : tie.Need-returns-5
 unfolding idIn
 returns-5 c = rw (c .before .minor-of .ensures) (sym (minor-left _ _ _ _ (all (c .before .before))))
@@ -70,17 +43,17 @@ pub peer-sound-spec : {M : Type 1} → statement M
 peer-sound-spec =
     tie.close
     (tie.spec
-    mark-of-requires
+    (λ c κs. search needs)
     returns
     returns-2
-    element-copy-out-if3
+    (λ c. search needs)
     returns-3
-    handle-of-requires
+    (λ c κs. search needs)
     returns-4
-    minor-of-requires
-    mul-result
-    add-result
-    add-result-2
-    mul-result-2
-    element-copy-out-result
+    (λ c κs. search needs)
+    (λ c. search needs)
+    (λ c. search needs)
+    (λ c. search needs)
+    (λ c. search needs)
+    (λ c. search needs)
     returns-5)

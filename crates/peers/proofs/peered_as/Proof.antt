@@ -6,19 +6,13 @@ use borrow.Author.Needs.{needs}
 use Rattle.peers.proofs.peered_as.Statement.{statement}
 use Rattle.peers.proofs.peered_as.Tie as tie
 
-mark-of-requires : tie.Need-mark-of-requires
-mark-of-requires c κs = search needs
-
 returns : tie.Need-returns
 unfolding _and_
 returns c = rw (← c .before .mark-of .ensures, ne-eqb _ _ (c .if1 .taken))
-
-handle-of-requires : tie.Need-handle-of-requires
-handle-of-requires c κs = search needs
 
 returns-2 : tie.Need-returns-2
 unfolding _and_
 returns-2 c = rw (← c .before .before .mark-of .ensures, ← c .handle-of .ensures, eq-eqb _ _ (c .before .if1 .left))
 
 pub peered-as-spec : {M : Type 1} → statement M
-peered-as-spec = tie.close (tie.spec mark-of-requires returns handle-of-requires returns-2)
+peered-as-spec = tie.close (tie.spec (λ c κs. search needs) returns (λ c κs. search needs) returns-2)

@@ -13,14 +13,8 @@ use borrow.Author.Needs.{needs}
 use Rattle.peers.proofs.peers_sound.Statement.{statement}
 use Rattle.peers.proofs.peers_sound.Tie as tie
 
-none-marked-requires : tie.Need-none-marked-requires
-none-marked-requires c κs = search needs
-
 returns : tie.Need-returns
 returns c = sym (unmarked-sound _ _ _ (λ p _. c .before .none-marked .ensures (c .if1 .taken) p))
-
-each-sound-requires : tie.Need-each-sound-requires
-each-sound-requires c κs = search needs
 
 returns-2 : tie.Need-returns-2
 returns-2 c = refute _ (λ t. clash _ (no _ (c .before .each-sound .ensures) (c .if2 .taken)) (each-part _ _ _ t))
@@ -29,14 +23,8 @@ returns-2 c = refute _ (λ t. clash _ (no _ (c .before .each-sound .ensures) (c 
 each : (c : tie.Else2) → every mostIds (peerSound (c .before .before .before .before .args .state .now) (readyAt (c .before .before .before .before .args .state .now) (c .before .before .before .before .args .channel)) (c .before .before .before .before .args .channel)) ≡ true
 each c = yes _ (c .before .each-sound .ensures) (c .if2 .left)
 
-handles-apart-requires : tie.Need-handles-apart-requires
-handles-apart-requires c κs = search needs
-
 returns-3 : tie.Need-returns-3
 returns-3 c = refute _ (λ t. clash _ (no _ (c .before .handles-apart .ensures) (c .if3 .taken)) (apart-part _ _ _ t))
-
-count-requires : tie.Need-count-requires
-count-requires c κs = search needs
 
 returns-4 : tie.Need-returns-4
 returns-4 c =
@@ -47,11 +35,11 @@ pub peers-sound-spec : {M : Type 1} → statement M
 peers-sound-spec =
     tie.close
     (tie.spec
-    none-marked-requires
+    (λ c κs. search needs)
     returns
-    each-sound-requires
+    (λ c κs. search needs)
     returns-2
-    handles-apart-requires
+    (λ c κs. search needs)
     returns-3
-    count-requires
+    (λ c κs. search needs)
     returns-4)

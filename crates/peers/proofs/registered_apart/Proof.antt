@@ -26,12 +26,6 @@ peer-apart-requires c κs = (omega arith, omega arith)
 returns : tie.Need-returns Inv-loop μ-loop
 returns c = every-fails _ _ _ (c .before .before .loop-test .taken) (no _ (c .before .peer-apart .ensures) (c .if1 .taken))
 
-add-p : tie.Need-add-p Inv-loop μ-loop
-add-p c = omega arith
-
-loop-less : tie.Need-loop-less Inv-loop μ-loop
-loop-less c = omega arith
-
 loop-again : tie.Need-loop-again Inv-loop μ-loop
 loop-again c = (omega arith, every-more _ _ (c .before .before .before .loop .inv .1) (yes _ (c .before .peer-apart .ensures) (c .if1 .left)))
 
@@ -47,7 +41,7 @@ registered-apart-spec =
     loop-holds
     peer-apart-requires
     returns
-    add-p
-    loop-less
+    (λ c. omega arith)
+    (λ c. omega arith)
     loop-again
     returns-2)

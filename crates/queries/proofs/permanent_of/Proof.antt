@@ -9,9 +9,6 @@ use Rattle.queries.proofs.permanent_of.Tie as tie
 named-block-requires : tie.Need-named-block-requires
 named-block-requires c κs = sound-in-order _ (c .pre)
 
-enum-known-found : tie.Need-enum-known-found
-enum-known-found c = search needs
-
 permanent-at-requires : tie.Need-permanent-at-requires
 permanent-at-requires c κs = (c .before .before .before .before .pre, named-less _ _ _ _ (sym (c .before .before .before .named-block .ensures) ∙ c .before .found .given .1))
 
@@ -30,7 +27,7 @@ permanent-of-spec =
     tie.close
     (tie.spec
     named-block-requires
-    enum-known-found
+    (λ c. search needs)
     permanent-at-requires
     enum-told
     returns

@@ -23,38 +23,8 @@ loop-holds : tie.Need-loop-holds Inv-loop μ-loop
 unfolding joined
 loop-holds c = (omega arith, refl, refl)
 
-address-requires : tie.Need-address-requires Inv-loop μ-loop
-address-requires c κs = omega arith
-
-size-requires : tie.Need-size-requires Inv-loop μ-loop
-size-requires c κs = omega arith
-
-mul-at : tie.Need-mul-at Inv-loop μ-loop
-mul-at c = omega arith
-
-add-at : tie.Need-add-at Inv-loop μ-loop
-add-at c = omega arith
-
-add-end : tie.Need-add-end Inv-loop μ-loop
-add-end c = omega arith
-
-sub-put-query-record : tie.Need-sub-put-query-record Inv-loop μ-loop
-sub-put-query-record c = omega arith
-
-part-put-query-record-start : tie.Need-part-put-query-record-start Inv-loop μ-loop
-part-put-query-record-start c = omega arith
-
-part-put-query-record-end : tie.Need-part-put-query-record-end Inv-loop μ-loop
-part-put-query-record-end c = omega arith
-
 put-query-record-requires : tie.Need-put-query-record-requires Inv-loop μ-loop
 put-query-record-requires c κs = (c .before .before .before .before .before .before .before .pre .0, simp (length-take, length-drop) (omega arith))
-
-add-i : tie.Need-add-i Inv-loop μ-loop
-add-i c = omega arith
-
-loop-less : tie.Need-loop-less Inv-loop μ-loop
-loop-less c = omega arith
 
 loop-again : tie.Need-loop-again Inv-loop μ-loop
 loop-again c =
@@ -78,17 +48,17 @@ put-query-records-spec =
     Inv-loop
     μ-loop
     loop-holds
-    address-requires
-    size-requires
-    mul-at
-    add-at
-    add-end
-    sub-put-query-record
-    part-put-query-record-start
-    part-put-query-record-end
+    (λ c κs. omega arith)
+    (λ c κs. omega arith)
+    (λ c. omega arith)
+    (λ c. omega arith)
+    (λ c. omega arith)
+    (λ c. omega arith)
+    (λ c. omega arith)
+    (λ c. omega arith)
     put-query-record-requires
-    add-i
-    loop-less
+    (λ c. omega arith)
+    (λ c. omega arith)
     loop-again
     same-length
     returns)

@@ -11,23 +11,8 @@ use borrow.Author.Needs.{needs}
 use Rattle.reception.proofs.deliver.Statement.{statement}
 use Rattle.reception.proofs.deliver.Tie as tie
 
-route-requires : tie.Need-route-requires
-route-requires c κs = search needs
-
 enum-told : tie.Need-enum-told
 enum-told c = search needs
-
-answer-requires : tie.Need-answer-requires
-answer-requires c κs = search needs
-
-enum-told-2 : tie.Need-enum-told-2
-enum-told-2 c = search needs
-
-answer-requires-2 : tie.Need-answer-requires-2
-answer-requires-2 c κs = search needs
-
-enum-told-3 : tie.Need-enum-told-3
-enum-told-3 c = search needs
 
 abbrev start : tie.After-enum-told3 → tie.Start
 start c = c .before .before .before .before .before
@@ -39,28 +24,13 @@ to-orders c = sym (c .before .before .route .ensures) ∙ c .enum-told3 .given .
 answer-requires-3 : tie.Need-answer-requires-3
 answer-requires-3 c κs = let v = orders-services _ (to-orders (c .before .before)) in (omega arith, omega arith, search needs)
 
-enum-told-4 : tie.Need-enum-told-4
-enum-told-4 c = search needs
-
-delivered-requires : tie.Need-delivered-requires
-delivered-requires c κs = search needs
-
-same-length : tie.Need-same-length
-same-length c = search needs
-
 returns : tie.Need-returns
 unfolding dataFor routed
 returns c = let t = c .before .before .before .before .before in rw (sym (t .before .before .route .ensures) ∙ t .enum-told .given .1) (c .before .before .answer .ensures)
 
-same-length-2 : tie.Need-same-length-2
-same-length-2 c = search needs
-
 returns-2 : tie.Need-returns-2
 unfolding dataFor routed
 returns-2 c = let t = c .before .before .before .before .before in rw (sym (t .before .before .route .ensures) ∙ t .enum-told2 .given .1) (c .before .before .answer2 .ensures)
-
-same-length-3 : tie.Need-same-length-3
-same-length-3 c = search needs
 
 returns-3 : tie.Need-returns-3
 unfolding dataFor routed
@@ -74,19 +44,19 @@ pub deliver-spec : {M : Type 1} → statement M
 deliver-spec =
     tie.close
     (tie.spec
-    route-requires
+    (λ c κs. search needs)
     enum-told
-    answer-requires
-    enum-told-2
-    answer-requires-2
-    enum-told-3
+    (λ c κs. search needs)
+    (λ c. search needs)
+    (λ c κs. search needs)
+    (λ c. search needs)
     answer-requires-3
-    enum-told-4
-    delivered-requires
-    same-length
+    (λ c. search needs)
+    (λ c κs. search needs)
+    (λ c. search needs)
     returns
-    same-length-2
+    (λ c. search needs)
     returns-2
-    same-length-3
+    (λ c. search needs)
     returns-3
     returns-4)

@@ -4,15 +4,6 @@ use borrow.Author.Needs.{needs}
 use Rattle.reception.proofs.goes_to_host.Statement.{statement}
 use Rattle.reception.proofs.goes_to_host.Tie as tie
 
-enum-known-found : tie.Need-enum-known-found
-enum-known-found c = search needs
-
-route-requires : tie.Need-route-requires
-route-requires c κs = search needs
-
-is-host-requires : tie.Need-is-host-requires
-is-host-requires c κs = search needs
-
 enum-told : tie.Need-enum-told
 enum-told c = search needs
 
@@ -27,4 +18,4 @@ returns-2 c = rw (c .enum-told .given .1)
 pub goes-to-host-spec : {M : Type 1} → statement M
 goes-to-host-spec =
     tie.close
-    (tie.spec enum-known-found route-requires is-host-requires enum-told returns returns-2)
+    (tie.spec (λ c. search needs) (λ c κs. search needs) (λ c κs. search needs) enum-told returns returns-2)

@@ -7,12 +7,6 @@ use borrow.Author.Needs.{needs}
 use Rattle.reception.proofs.hear.Statement.{statement}
 use Rattle.reception.proofs.hear.Tie as tie
 
-enum-known-decoded : tie.Need-enum-known-decoded
-enum-known-decoded c = search needs
-
-initiate-requires : tie.Need-initiate-requires
-initiate-requires c κs = search needs
-
 enum-told : tie.Need-enum-told
 enum-told c = search needs
 
@@ -21,66 +15,12 @@ register-peer-requires c κs =
     let s = c .before .before .before .before .before .before in
     (s .pre .0, omega arith, reg-there _ _ (sym (s .pre .3) ∙ c .before .before .enum-told .given .1), s .pre .2)
 
-enum-known-decoded-2 : tie.Need-enum-known-decoded-2
-enum-known-decoded-2 c = search needs
-
-acknowledge-requires : tie.Need-acknowledge-requires
-acknowledge-requires c κs = search needs
-
-enum-known-decoded-3 : tie.Need-enum-known-decoded-3
-enum-known-decoded-3 c = search needs
-
-not-acknowledge-requires : tie.Need-not-acknowledge-requires
-not-acknowledge-requires c κs = search needs
-
-enum-known-decoded-4 : tie.Need-enum-known-decoded-4
-enum-known-decoded-4 c = search needs
-
-unregister-requires : tie.Need-unregister-requires
-unregister-requires c κs = search needs
-
-enum-told-2 : tie.Need-enum-told-2
-enum-told-2 c = search needs
-
-only-noted-requires : tie.Need-only-noted-requires
-only-noted-requires c κs = search needs
-
-enum-told-3 : tie.Need-enum-told-3
-enum-told-3 c = search needs
-
-only-noted-requires-2 : tie.Need-only-noted-requires-2
-only-noted-requires-2 c κs = search needs
-
-enum-known-decoded-5 : tie.Need-enum-known-decoded-5
-enum-known-decoded-5 c = search needs
-
 payload-requires : tie.Need-payload-requires
 payload-requires c κs = data-there _ _ (sym (c .before .before .before .before .before .before .pre .3) ∙ c .before .before .decoded5 .given .1)
-
-take-data-requires : tie.Need-take-data-requires
-take-data-requires c κs = search needs
-
-enum-told-4 : tie.Need-enum-told-4
-enum-told-4 c = search needs
-
-only-noted-requires-3 : tie.Need-only-noted-requires-3
-only-noted-requires-3 c κs = search needs
-
-enum-told-5 : tie.Need-enum-told-5
-enum-told-5 c = search needs
-
-close-requires : tie.Need-close-requires
-close-requires c κs = search needs
-
-same-length : tie.Need-same-length
-same-length c = search needs
 
 returns : tie.Need-returns
 unfolding heard
 returns c = rw (c .before .before .before .before .before .before .decoded .given .1) (c .before .before .initiate .ensures)
-
-same-length-2 : tie.Need-same-length-2
-same-length-2 c = search needs
 
 returns-2 : tie.Need-returns-2
 unfolding heard
@@ -94,9 +34,6 @@ returns-4 : tie.Need-returns-4
 unfolding heard
 returns-4 c = rw (c .before .before .before .decoded3 .given .1) (silent-handles _ (c .not-acknowledge .ensures))
 
-same-length-3 : tie.Need-same-length-3
-same-length-3 c = search needs
-
 returns-5 : tie.Need-returns-5
 unfolding heard
 returns-5 c = rw (c .before .before .before .before .before .before .decoded4 .given .1) (c .before .before .unregister .ensures)
@@ -108,9 +45,6 @@ returns-6 c = rw (c .before .before .enum-told2 .given .1) (silent-handles _ (c 
 returns-7 : tie.Need-returns-7
 unfolding heard
 returns-7 c = rw (c .before .before .enum-told3 .given .1) (silent-handles _ (c .only-noted2 .ensures))
-
-same-length-4 : tie.Need-same-length-4
-same-length-4 c = search needs
 
 returns-8 : tie.Need-returns-8
 unfolding heard
@@ -128,38 +62,38 @@ pub hear-spec : {M : Type 1} → statement M
 hear-spec =
     tie.close
     (tie.spec
-    enum-known-decoded
-    initiate-requires
+    (λ c. search needs)
+    (λ c κs. search needs)
     enum-told
     register-peer-requires
-    enum-known-decoded-2
-    acknowledge-requires
-    enum-known-decoded-3
-    not-acknowledge-requires
-    enum-known-decoded-4
-    unregister-requires
-    enum-told-2
-    only-noted-requires
-    enum-told-3
-    only-noted-requires-2
-    enum-known-decoded-5
+    (λ c. search needs)
+    (λ c κs. search needs)
+    (λ c. search needs)
+    (λ c κs. search needs)
+    (λ c. search needs)
+    (λ c κs. search needs)
+    (λ c. search needs)
+    (λ c κs. search needs)
+    (λ c. search needs)
+    (λ c κs. search needs)
+    (λ c. search needs)
     payload-requires
-    take-data-requires
-    enum-told-4
-    only-noted-requires-3
-    enum-told-5
-    close-requires
-    same-length
+    (λ c κs. search needs)
+    (λ c. search needs)
+    (λ c κs. search needs)
+    (λ c. search needs)
+    (λ c κs. search needs)
+    (λ c. search needs)
     returns
-    same-length-2
+    (λ c. search needs)
     returns-2
     returns-3
     returns-4
-    same-length-3
+    (λ c. search needs)
     returns-5
     returns-6
     returns-7
-    same-length-4
+    (λ c. search needs)
     returns-8
     returns-9
     returns-10)

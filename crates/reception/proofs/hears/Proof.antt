@@ -7,9 +7,6 @@ use Rattle.reception.proofs.hears.Tie as tie
 enum-told : tie.Need-enum-told
 enum-told c = search needs
 
-enum-told-2 : tie.Need-enum-told-2
-enum-told-2 c = search needs
-
 returns : tie.Need-returns
 unfolding hears
 returns c = rw (c .enum-told .given .1)
@@ -22,4 +19,4 @@ returns-3 : tie.Need-returns-3
 returns-3 c = hears-others _ _ (c .match .keys3)
 
 pub hears-spec : {M : Type 1} → statement M
-hears-spec = tie.close (tie.spec enum-told enum-told-2 returns returns-2 returns-3)
+hears-spec = tie.close (tie.spec enum-told (λ c. search needs) returns returns-2 returns-3)

@@ -9,12 +9,6 @@ use borrow.Author.Needs.{needs}
 use Rattle.reception.proofs.is_shown.Statement.{statement}
 use Rattle.reception.proofs.is_shown.Tie as tie
 
-find-staged-requires : tie.Need-find-staged-requires
-find-staged-requires c κs = search needs
-
-goes-to-host-requires : tie.Need-goes-to-host-requires
-goes-to-host-requires c κs = search needs
-
 -- the test, of the service registered under this handle on this channel
 abbrev start : tie.After-goes-to-host → tie.Start
 start c = c .before .before
@@ -26,9 +20,6 @@ returns : tie.Need-returns
 unfolding _or_
 returns c = rw (test-of (c .before) true (c .if1 .taken))
 
-has-handle-requires : tie.Need-has-handle-requires
-has-handle-requires c κs = search needs
-
 returns-2 : tie.Need-returns-2
 unfolding _or_
 returns-2 c = rw (test-of (c .before .before) false (c .before .if1 .left)) (c .has-handle .ensures)
@@ -36,4 +27,4 @@ returns-2 c = rw (test-of (c .before .before) false (c .before .if1 .left)) (c .
 pub is-shown-spec : {M : Type 1} → statement M
 is-shown-spec =
     tie.close
-    (tie.spec find-staged-requires goes-to-host-requires returns has-handle-requires returns-2)
+    (tie.spec (λ c κs. search needs) (λ c κs. search needs) returns (λ c κs. search needs) returns-2)

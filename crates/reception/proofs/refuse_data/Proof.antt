@@ -4,18 +4,9 @@ use borrow.Author.Needs.{needs}
 use Rattle.reception.proofs.refuse_data.Statement.{statement}
 use Rattle.reception.proofs.refuse_data.Tie as tie
 
-put-nack-requires : tie.Need-put-nack-requires
-put-nack-requires c κs = search needs
-
-data-refused-requires : tie.Need-data-refused-requires
-data-refused-requires c κs = search needs
-
-same-length : tie.Need-same-length
-same-length c = search needs
-
 returns : tie.Need-returns
 unfolding peerData
 returns c = let w = c .before .before .before .put-nack .ensures in record { length′ = w .size; notes = c .data-refused .ensures; state = refl; output = w .output }
 
 pub refuse-data-spec : {M : Type 1} → statement M
-refuse-data-spec = tie.close (tie.spec put-nack-requires data-refused-requires same-length returns)
+refuse-data-spec = tie.close (tie.spec (λ c κs. search needs) (λ c κs. search needs) (λ c. search needs) returns)

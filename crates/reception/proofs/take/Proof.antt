@@ -5,27 +5,9 @@ use borrow.Author.Needs.{needs}
 use Rattle.reception.proofs.take.Statement.{statement}
 use Rattle.reception.proofs.take.Tie as tie
 
-is-ready-requires : tie.Need-is-ready-requires
-is-ready-requires c κs = search needs
-
-decode-requires : tie.Need-decode-requires
-decode-requires c κs = search needs
-
-hears-requires : tie.Need-hears-requires
-hears-requires c κs = search needs
-
-hear-requires : tie.Need-hear-requires
-hear-requires c κs = search needs
-
-same-length : tie.Need-same-length
-same-length c = search needs
-
 returns : tie.Need-returns
 unfolding receiving pick
 returns c = rw (← c .before .before .before .before .before .before .before .decode .ensures, ← c .before .before .before .before .before .before .before .before .is-ready .ensures, ← c .before .before .before .before .before .before .hears .ensures, c .before .before .before .before .before .if1 .taken) (c .before .before .hear .ensures)
-
-close-requires : tie.Need-close-requires
-close-requires c κs = search needs
 
 returns-2 : tie.Need-returns-2
 unfolding receiving pick
@@ -35,11 +17,11 @@ pub take-spec : {M : Type 1} → statement M
 take-spec =
     tie.close
     (tie.spec
-    is-ready-requires
-    decode-requires
-    hears-requires
-    hear-requires
-    same-length
+    (λ c κs. search needs)
+    (λ c κs. search needs)
+    (λ c κs. search needs)
+    (λ c κs. search needs)
+    (λ c. search needs)
     returns
-    close-requires
+    (λ c κs. search needs)
     returns-2)

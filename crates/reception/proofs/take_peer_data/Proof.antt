@@ -9,9 +9,6 @@ use borrow.Author.Needs.{needs}
 use Rattle.reception.proofs.take_peer_data.Statement.{statement}
 use Rattle.reception.proofs.take_peer_data.Tie as tie
 
-find-peer-requires : tie.Need-find-peer-requires
-find-peer-requires c κs = search needs
-
 -- what was found, under this handle on this channel
 abbrev start : tie.After-find-peer → tie.Start
 start c = c .before .before
@@ -22,23 +19,11 @@ found-of c x e = sym (c .find-peer .ensures) ∙ e
 enum-told : tie.Need-enum-told
 enum-told c = search needs
 
-peer-data-requires : tie.Need-peer-data-requires
-peer-data-requires c κs = search needs
-
-enum-told-2 : tie.Need-enum-told-2
-enum-told-2 c = search needs
-
-refuse-data-requires : tie.Need-refuse-data-requires
-refuse-data-requires c κs = search needs
-
 returns : tie.Need-returns
 unfolding peerData written
 returns c =
     let t = c .before in
     rw (found-of (t .before .before) _ (t .enum-told .given .1)) (record { length′ = refl; notes = c .peer-data .ensures; state = refl; output = refl })
-
-same-length : tie.Need-same-length
-same-length c = search needs
 
 returns-2 : tie.Need-returns-2
 returns-2 c =
@@ -49,11 +34,11 @@ pub take-peer-data-spec : {M : Type 1} → statement M
 take-peer-data-spec =
     tie.close
     (tie.spec
-    find-peer-requires
+    (λ c κs. search needs)
     enum-told
-    peer-data-requires
-    enum-told-2
-    refuse-data-requires
+    (λ c κs. search needs)
+    (λ c. search needs)
+    (λ c κs. search needs)
     returns
-    same-length
+    (λ c. search needs)
     returns-2)

@@ -8,14 +8,8 @@ use borrow.Author.Needs.{needs}
 use Rattle.records.proofs.put_bare.Statement.{statement}
 use Rattle.records.proofs.put_bare.Tie as tie
 
-put-header-requires : tie.Need-put-header-requires
-put-header-requires c κs = search needs
-
-same-length : tie.Need-same-length
-same-length c = search needs
-
 returns : tie.Need-returns
 returns c = reply-stored _ _ _ _ [] _ 0 refl (omega arith) (c .before .before .put-header .ensures) refl
 
 pub put-bare-spec : {M : Type 1} → statement M
-put-bare-spec = tie.close (tie.spec put-header-requires same-length returns)
+put-bare-spec = tie.close (tie.spec (λ c κs. search needs) (λ c. search needs) returns)

@@ -6,33 +6,6 @@ use borrow.Author.Needs.{needs}
 use Rattle.records.proofs.put_header.Statement.{statement}
 use Rattle.records.proofs.put_header.Tie as tie
 
-put32-requires : tie.Need-put32-requires
-put32-requires c κs = search needs
-
-add-put32 : tie.Need-add-put32
-add-put32 c = search needs
-
-cast-put32 : tie.Need-cast-put32
-cast-put32 c = search needs
-
-put32-requires-2 : tie.Need-put32-requires-2
-put32-requires-2 c κs = search needs
-
-put64-requires : tie.Need-put64-requires
-put64-requires c κs = search needs
-
-put32-requires-3 : tie.Need-put32-requires-3
-put32-requires-3 c κs = search needs
-
-put32-requires-4 : tie.Need-put32-requires-4
-put32-requires-4 c κs = search needs
-
-put64-requires-2 : tie.Need-put64-requires-2
-put64-requires-2 c κs = search needs
-
-same-length : tie.Need-same-length
-same-length c = search needs
-
 returns : tie.Need-returns
 unfolding bytesOf memoryHeader
 returns c =
@@ -47,13 +20,13 @@ pub put-header-spec : {M : Type 1} → statement M
 put-header-spec =
     tie.close
     (tie.spec
-    put32-requires
-    add-put32
-    cast-put32
-    put32-requires-2
-    put64-requires
-    put32-requires-3
-    put32-requires-4
-    put64-requires-2
-    same-length
+    (λ c κs. search needs)
+    (λ c. search needs)
+    (λ c. search needs)
+    (λ c κs. search needs)
+    (λ c κs. search needs)
+    (λ c κs. search needs)
+    (λ c κs. search needs)
+    (λ c κs. search needs)
+    (λ c. search needs)
     returns)

@@ -10,33 +10,6 @@ use borrow.Author.Needs.{needs}
 use Rattle.records.proofs.put_result.Statement.{statement}
 use Rattle.records.proofs.put_result.Tie as tie
 
-status-of-requires : tie.Need-status-of-requires
-status-of-requires c κs = search needs
-
-mul-at : tie.Need-mul-at
-mul-at c = search needs
-
-add-at : tie.Need-add-at
-add-at c = search needs
-
-add-end : tie.Need-add-end
-add-end c = search needs
-
-sub-put-result-record : tie.Need-sub-put-result-record
-sub-put-result-record c = search needs
-
-part-put-result-record-start : tie.Need-part-put-result-record-start
-part-put-result-record-start c = search needs
-
-part-put-result-record-end : tie.Need-part-put-result-record-end
-part-put-result-record-end c = search needs
-
-put-result-record-requires : tie.Need-put-result-record-requires
-put-result-record-requires c κs = search needs
-
-same-length : tie.Need-same-length
-same-length c = search needs
-
 returns : tie.Need-returns
 unfolding resultRecord
 returns c =
@@ -49,13 +22,13 @@ pub put-result-spec : {M : Type 1} → statement M
 put-result-spec =
     tie.close
     (tie.spec
-    status-of-requires
-    mul-at
-    add-at
-    add-end
-    sub-put-result-record
-    part-put-result-record-start
-    part-put-result-record-end
-    put-result-record-requires
-    same-length
+    (λ c κs. search needs)
+    (λ c. search needs)
+    (λ c. search needs)
+    (λ c. search needs)
+    (λ c. search needs)
+    (λ c. search needs)
+    (λ c. search needs)
+    (λ c κs. search needs)
+    (λ c. search needs)
     returns)

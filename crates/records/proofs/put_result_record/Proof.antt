@@ -5,30 +5,6 @@ use borrow.Author.Needs.{needs}
 use Rattle.records.proofs.put_result_record.Statement.{statement}
 use Rattle.records.proofs.put_result_record.Tie as tie
 
-put64-requires : tie.Need-put64-requires
-put64-requires c κs = search needs
-
-put64-requires-2 : tie.Need-put64-requires-2
-put64-requires-2 c κs = search needs
-
-cast-put32 : tie.Need-cast-put32
-cast-put32 c = search needs
-
-put32-requires : tie.Need-put32-requires
-put32-requires c κs = search needs
-
-cast-put32-2 : tie.Need-cast-put32-2
-cast-put32-2 c = search needs
-
-put32-requires-2 : tie.Need-put32-requires-2
-put32-requires-2 c κs = search needs
-
-put32-requires-3 : tie.Need-put32-requires-3
-put32-requires-3 c κs = search needs
-
-same-length : tie.Need-same-length
-same-length c = search needs
-
 returns : tie.Need-returns
 returns c =
     let c₆ : _ = c .before .before .before .before .before .before in
@@ -44,12 +20,12 @@ pub put-result-record-spec : {M : Type 1} → statement M
 put-result-record-spec =
     tie.close
     (tie.spec
-    put64-requires
-    put64-requires-2
-    cast-put32
-    put32-requires
-    cast-put32-2
-    put32-requires-2
-    put32-requires-3
-    same-length
+    (λ c κs. search needs)
+    (λ c κs. search needs)
+    (λ c. search needs)
+    (λ c κs. search needs)
+    (λ c. search needs)
+    (λ c κs. search needs)
+    (λ c κs. search needs)
+    (λ c. search needs)
     returns)

@@ -5,9 +5,6 @@ use borrow.Author.Needs.{needs}
 use Rattle.records.proofs.status_at.Statement.{statement}
 use Rattle.records.proofs.status_at.Tie as tie
 
-configured-of-requires : tie.Need-configured-of-requires
-configured-of-requires c κs = search needs
-
 returns : tie.Need-returns
 unfolding statusAt pick
 returns c = rw (← c .before .configured-of .ensures, eq-eqb _ _ (c .if1 .taken))
@@ -17,4 +14,4 @@ unfolding statusAt pick
 returns-2 c = rw (← c .before .configured-of .ensures, ne-eqb _ _ (c .if1 .left))
 
 pub status-at-spec : {M : Type 1} → statement M
-status-at-spec = tie.close (tie.spec configured-of-requires returns returns-2)
+status-at-spec = tie.close (tie.spec (λ c κs. search needs) returns returns-2)

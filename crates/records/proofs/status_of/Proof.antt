@@ -6,12 +6,6 @@ use borrow.Author.Needs.{needs}
 use Rattle.records.proofs.status_of.Statement.{statement}
 use Rattle.records.proofs.status_of.Tie as tie
 
-named-block-requires : tie.Need-named-block-requires
-named-block-requires c κs = search needs
-
-enum-known-found : tie.Need-enum-known-found
-enum-known-found c = search needs
-
 status-at-requires : tie.Need-status-at-requires
 status-at-requires c κs = let e = named-less _ _ _ _ (sym (c .before .before .before .named-block .ensures) ∙ c .before .found .given .1) in omega (arith, e)
 
@@ -28,4 +22,4 @@ returns-2 c = rw (← c .before .before .named-block .ensures, c .enum-told .giv
 pub status-of-spec : {M : Type 1} → statement M
 status-of-spec =
     tie.close
-    (tie.spec named-block-requires enum-known-found status-at-requires enum-told returns returns-2)
+    (tie.spec (λ c κs. search needs) (λ c. search needs) status-at-requires enum-told returns returns-2)

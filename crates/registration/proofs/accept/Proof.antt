@@ -4,17 +4,8 @@ use native.Mathlib.Omega.{arith}
 use Rattle.registration.proofs.accept.Statement.{statement}
 use Rattle.registration.proofs.accept.Tie as tie
 
-put-reg-ack-requires : tie.Need-put-reg-ack-requires
-put-reg-ack-requires c κs = omega arith
-
 set-peer-requires : tie.Need-set-peer-requires
 set-peer-requires c κs = (omega arith, omega arith)
-
-peer-registered-requires : tie.Need-peer-registered-requires
-peer-registered-requires c κs = omega arith
-
-same-length : tie.Need-same-length
-same-length c = omega arith
 
 returns : tie.Need-returns
 returns c =
@@ -24,4 +15,4 @@ returns c =
 pub accept-spec : {M : Type 1} → statement M
 accept-spec =
     tie.close
-    (tie.spec put-reg-ack-requires set-peer-requires peer-registered-requires same-length returns)
+    (tie.spec (λ c κs. omega arith) set-peer-requires (λ c κs. omega arith) (λ c. omega arith) returns)

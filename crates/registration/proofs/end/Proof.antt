@@ -5,18 +5,6 @@ use native.Mathlib.Omega.{arith}
 use Rattle.registration.proofs.end.Statement.{statement}
 use Rattle.registration.proofs.end.Tie as tie
 
-put-unreg-ack-requires : tie.Need-put-unreg-ack-requires
-put-unreg-ack-requires c κs = omega arith
-
-end-peer-requires : tie.Need-end-peer-requires
-end-peer-requires c κs = omega arith
-
-peer-ended-requires : tie.Need-peer-ended-requires
-peer-ended-requires c κs = omega arith
-
-same-length : tie.Need-same-length
-same-length c = omega arith
-
 returns : tie.Need-returns
 unfolding peerUnregistered
 returns c =
@@ -26,4 +14,4 @@ returns c =
 pub end-spec : {M : Type 1} → statement M
 end-spec =
     tie.close
-    (tie.spec put-unreg-ack-requires end-peer-requires peer-ended-requires same-length returns)
+    (tie.spec (λ c κs. omega arith) (λ c κs. omega arith) (λ c κs. omega arith) (λ c. omega arith) returns)

@@ -9,18 +9,12 @@ use Rattle.model.proofs.Choice.{first-facts}
 use Rattle.registration.proofs.end_peer.Statement.{statement}
 use Rattle.registration.proofs.end_peer.Tie as tie
 
-find-peer-requires : tie.Need-find-peer-requires
-find-peer-requires c κs = omega arith
-
 -- what was found, under this handle on this channel
 abbrev start : tie.After-find-peer → tie.Start
 start c = c .before .before .before
 
 found-of : (c : tie.After-find-peer) (x : Found) → c .find-peer .result ≡ x → peerFor (start c .args .state .now) (start c .args .channel) (start c .args .handle) ≡ x
 found-of c x e = sym (c .find-peer .ensures) ∙ e
-
-enum-known-found : tie.Need-enum-known-found
-enum-known-found c = omega arith
 
 end-requires : tie.Need-end-requires
 end-requires c κs =
@@ -30,17 +24,8 @@ end-requires c κs =
 enum-told : tie.Need-enum-told
 enum-told c = omega arith
 
-refuse-end-requires : tie.Need-refuse-end-requires
-refuse-end-requires c κs = omega arith
-
-same-length : tie.Need-same-length
-same-length c = omega arith
-
 returns : tie.Need-returns
 returns c = let f = c .before .before .before .before .before .before in rw (found-of (f .before .before) _ (f .found .given .1)) (c .before .before .end .ensures)
-
-same-length-2 : tie.Need-same-length-2
-same-length-2 c = omega arith
 
 returns-2 : tie.Need-returns-2
 returns-2 c = let f = c .before .before .before .before .before in rw (found-of (f .before .before) _ (f .enum-told .given .1)) (c .before .before .refuse-end .ensures)
@@ -49,12 +34,12 @@ pub end-peer-spec : {M : Type 1} → statement M
 end-peer-spec =
     tie.close
     (tie.spec
-    find-peer-requires
-    enum-known-found
+    (λ c κs. omega arith)
+    (λ c. omega arith)
     end-requires
     enum-told
-    refuse-end-requires
-    same-length
+    (λ c κs. omega arith)
+    (λ c. omega arith)
     returns
-    same-length-2
+    (λ c. omega arith)
     returns-2)

@@ -13,9 +13,6 @@ use Rattle.registration.proofs.is_refused.Tie as tie
 returns : tie.Need-returns
 returns c = let a = c .before .args in sym (by-bit (a .state .now) (a .channel) (a .handle) (omega arith))
 
-has-handle-requires : tie.Need-has-handle-requires
-has-handle-requires c κs = omega arith
-
 -- past the test of the bit
 low : (c : tie.Else1) → c .before .args .handle < topBit
 low c = omega arith
@@ -25,9 +22,6 @@ returns-2 c =
     let e1 = c .before .before in
     let a = e1 .before .args in
     sym (by-handle (a .state .now) (a .channel) (a .handle) (low e1) (sym (c .before .has-handle .ensures) ∙ c .if2 .taken))
-
-count-requires : tie.Need-count-requires
-count-requires c κs = omega arith
 
 returns-3 : tie.Need-returns-3
 returns-3 c =
@@ -39,4 +33,4 @@ returns-3 c =
 
 pub is-refused-spec : {M : Type 1} → statement M
 is-refused-spec =
-    tie.close (tie.spec returns has-handle-requires returns-2 count-requires returns-3)
+    tie.close (tie.spec returns (λ c κs. omega arith) returns-2 (λ c κs. omega arith) returns-3)

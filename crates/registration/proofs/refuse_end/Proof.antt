@@ -6,18 +6,6 @@ use native.Mathlib.Omega.{arith}
 use Rattle.registration.proofs.refuse_end.Statement.{statement}
 use Rattle.registration.proofs.refuse_end.Tie as tie
 
-put-unreg-nack-requires : tie.Need-put-unreg-nack-requires
-put-unreg-nack-requires c κs = omega arith
-
-cast-noted : tie.Need-cast-noted
-cast-noted c = omega arith
-
-noted-requires : tie.Need-noted-requires
-noted-requires c κs = omega arith
-
-same-length : tie.Need-same-length
-same-length c = omega arith
-
 returns : tie.Need-returns
 unfolding noting peerUnregistered
 returns c =
@@ -26,4 +14,4 @@ returns c =
 
 pub refuse-end-spec : {M : Type 1} → statement M
 refuse-end-spec =
-    tie.close (tie.spec put-unreg-nack-requires cast-noted noted-requires same-length returns)
+    tie.close (tie.spec (λ c κs. omega arith) (λ c. omega arith) (λ c κs. omega arith) (λ c. omega arith) returns)

@@ -12,25 +12,10 @@ use borrow.Author.Needs.{needs}
 use Rattle.registration.proofs.register_peer.Statement.{statement}
 use Rattle.registration.proofs.register_peer.Tie as tie
 
-get64-requires : tie.Need-get64-requires
-get64-requires c κs = omega arith
-
-is-refused-requires : tie.Need-is-refused-requires
-is-refused-requires c κs = search needs
-
-refuse-requires : tie.Need-refuse-requires
-refuse-requires c κs = omega arith
-
-same-length : tie.Need-same-length
-same-length c = omega arith
-
 returns : tie.Need-returns
 returns c =
     let i = c .before .before .before .before in
     rw (duplicate _ _ _ _ (i .before .before .before .get64 .ensures) (sym (i .before .is-refused .ensures) ∙ i .if1 .taken)) (c .before .before .refuse .ensures _)
-
-id-of-requires : tie.Need-id-of-requires
-id-of-requires c κs = omega arith
 
 -- the start, the handle read and its tests, where the id is looked for
 abbrev start : tie.After-id-of → tie.Start
@@ -49,9 +34,6 @@ found-of c x e = rw (← c .before .id-of .ensures) (sym (c .listed-id .ensures)
 listed-id-requires : tie.Need-listed-id-requires
 listed-id-requires c κs = sound-facts _ (c .before .before .before .before .before .before .before .before .pre .0) .ids
 
-enum-known-found : tie.Need-enum-known-found
-enum-known-found c = omega arith
-
 register-listed-requires : tie.Need-register-listed-requires
 register-listed-requires c κs =
     let f = c .before .before .before in
@@ -61,20 +43,11 @@ register-listed-requires c κs =
 enum-told : tie.Need-enum-told
 enum-told c = omega arith
 
-refuse-requires-2 : tie.Need-refuse-requires-2
-refuse-requires-2 c κs = omega arith
-
-same-length-2 : tie.Need-same-length-2
-same-length-2 c = omega arith
-
 returns-2 : tie.Need-returns-2
 returns-2 c =
     let f = c .before .before .before .before .before .before in
     let l = f .before .before in
     rw (listed _ _ _ _ (handle-of (l .before)) _ (not-refused (l .before)) (found-of l _ (f .found .given .1))) (c .before .before .register-listed .ensures)
-
-same-length-3 : tie.Need-same-length-3
-same-length-3 c = omega arith
 
 returns-3 : tie.Need-returns-3
 returns-3 c =
@@ -86,18 +59,18 @@ pub register-peer-spec : {M : Type 1} → statement M
 register-peer-spec =
     tie.close
     (tie.spec
-    get64-requires
-    is-refused-requires
-    refuse-requires
-    same-length
+    (λ c κs. omega arith)
+    (λ c κs. search needs)
+    (λ c κs. omega arith)
+    (λ c. omega arith)
     returns
-    id-of-requires
+    (λ c κs. omega arith)
     listed-id-requires
-    enum-known-found
+    (λ c. omega arith)
     register-listed-requires
     enum-told
-    refuse-requires-2
-    same-length-2
+    (λ c κs. omega arith)
+    (λ c. omega arith)
     returns-2
-    same-length-3
+    (λ c. omega arith)
     returns-3)

@@ -6,9 +6,6 @@ use Rattle.model.specs.Choice.{pick}
 use Rattle.registration.proofs.told_major.Statement.{statement}
 use Rattle.registration.proofs.told_major.Tie as tie
 
-cast-result : tie.Need-cast-result
-cast-result c = omega arith
-
 returns : tie.Need-returns
 unfolding pick
 returns c = let a = c .before .args in rw (lt-ltb (a .own) (a .asked) (omega arith))
@@ -18,4 +15,4 @@ unfolding pick
 returns-2 c = let a = c .before .args in rw (le-ltb (a .own) (a .asked) (omega arith))
 
 pub told-major-spec : {M : Type 1} → statement M
-told-major-spec = tie.close (tie.spec cast-result returns returns-2)
+told-major-spec = tie.close (tie.spec (λ c. omega arith) returns returns-2)

@@ -7,9 +7,6 @@ use borrow.Author.Needs.{needs}
 use Rattle.removal.proofs.block_now.Statement.{statement}
 use Rattle.removal.proofs.block_now.Tie as tie
 
-position-of-requires : tie.Need-position-of-requires
-position-of-requires c κs = search needs
-
 address-of-requires : tie.Need-address-of-requires
 unfolding removalOf
 address-of-requires c κs = omega arith
@@ -18,9 +15,6 @@ size-of-requires : tie.Need-size-of-requires
 unfolding removalOf
 size-of-requires c κs = omega arith
 
-named-block-requires : tie.Need-named-block-requires
-named-block-requires c κs = search needs
-
 returns : tie.Need-returns
 returns c = let p = c .before .before .before in c .named-block .ensures ∙ block-read _ (p .position-of .ensures) (p .before .pre .1) (c .before .before .address-of .ensures) (c .before .size-of .ensures)
 
@@ -28,8 +22,8 @@ pub block-now-spec : {M : Type 1} → statement M
 block-now-spec =
     tie.close
     (tie.spec
-    position-of-requires
+    (λ c κs. search needs)
     address-of-requires
     size-of-requires
-    named-block-requires
+    (λ c κs. search needs)
     returns)

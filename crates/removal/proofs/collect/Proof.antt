@@ -6,18 +6,9 @@ use borrow.Author.Needs.{needs}
 use Rattle.removal.proofs.collect.Statement.{statement}
 use Rattle.removal.proofs.collect.Tie as tie
 
-pages-of-requires : tie.Need-pages-of-requires
-pages-of-requires c κs = search needs
-
-collected-of-requires : tie.Need-collected-of-requires
-collected-of-requires c κs = search needs
-
 add-if1 : tie.Need-add-if1
 unfolding removalOf
 add-if1 c = omega (arith, c .before .before .pages-of .ensures)
-
-set-configured-requires : tie.Need-set-configured-requires
-set-configured-requires c κs = search needs
 
 settle-requires : tie.Need-settle-requires
 settle-requires c κs = let g = c .before in let p = g .before .before .before .before .before .before .before .pre in (held-kept _ _ (p .1) (g .set-configured .ensures) (p .0), rw (removal-kept _ _ (p .1) (g .set-configured .ensures)) (p .2), p .1)
@@ -25,15 +16,6 @@ settle-requires c κs = let g = c .before in let p = g .before .before .before .
 returns : tie.Need-returns
 unfolding removalOf
 returns c = let g = c .before .before in let k = g .before .before .before in let b = k .before .before in collects-last _ _ (b .before .before .pre .1) (omega (arith, k .collected-of .ensures, g .before .before .if1 .taken, b .pages-of .ensures)) (g .set-configured .ensures) (c .settle .ensures)
-
-channel-of-requires : tie.Need-channel-of-requires
-channel-of-requires c κs = search needs
-
-add-pages-requires : tie.Need-add-pages-requires
-add-pages-requires c κs = search needs
-
-collected-requires : tie.Need-collected-requires
-collected-requires c κs = search needs
 
 returns-2 : tie.Need-returns-2
 unfolding removalOf
@@ -43,13 +25,13 @@ pub collect-spec : {M : Type 1} → statement M
 collect-spec =
     tie.close
     (tie.spec
-    pages-of-requires
-    collected-of-requires
+    (λ c κs. search needs)
+    (λ c κs. search needs)
     add-if1
-    set-configured-requires
+    (λ c κs. search needs)
     settle-requires
     returns
-    channel-of-requires
-    add-pages-requires
-    collected-requires
+    (λ c κs. search needs)
+    (λ c κs. search needs)
+    (λ c κs. search needs)
     returns-2)

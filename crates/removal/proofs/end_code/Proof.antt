@@ -9,17 +9,8 @@ use borrow.Author.Needs.{needs}
 use Rattle.removal.proofs.end_code.Statement.{statement}
 use Rattle.removal.proofs.end_code.Tie as tie
 
-is-cancelled-requires : tie.Need-is-cancelled-requires
-is-cancelled-requires c κs = search needs
-
 returns : tie.Need-returns
 returns c = sym (code-cancelled _ _ (cancelled-is _ (c .before .is-cancelled .ensures) (c .if1 .taken)))
-
-count-of-requires : tie.Need-count-of-requires
-count-of-requires c κs = search needs
-
-position-of-requires : tie.Need-position-of-requires
-position-of-requires c κs = search needs
 
 returns-2 : tie.Need-returns-2
 unfolding removalOf
@@ -29,9 +20,6 @@ block-now-requires : tie.Need-block-now-requires
 unfolding removalOf
 block-now-requires c κs = let p = c .before .before .before .before .before .pre in (p .blocks, omega (arith, p .records))
 
-failing-code-requires : tie.Need-failing-code-requires
-failing-code-requires c κs = search needs
-
 returns-3 : tie.Need-returns-3
 unfolding removalOf
 returns-3 c = let t = c .before .before .before .before .before in let s = t .before .before .args .state .now in c .failing-code .ensures ∙ ap failingCode (c .before .block-now .ensures) ∙ sym (code-failing s (removalOf s) (cancelled-is s (t .before .is-cancelled .ensures) (t .if1 .left)) (omega arith))
@@ -40,11 +28,11 @@ pub end-code-spec : {M : Type 1} → statement M
 end-code-spec =
     tie.close
     (tie.spec
-    is-cancelled-requires
+    (λ c κs. search needs)
     returns
-    count-of-requires
-    position-of-requires
+    (λ c κs. search needs)
+    (λ c κs. search needs)
     returns-2
     block-now-requires
-    failing-code-requires
+    (λ c κs. search needs)
     returns-3)

@@ -5,41 +5,11 @@ use borrow.Author.Needs.{needs}
 use Rattle.removal.proofs.end_removal.Statement.{statement}
 use Rattle.removal.proofs.end_removal.Tie as tie
 
-end-code-requires : tie.Need-end-code-requires
-end-code-requires c κs = search needs
-
-channel-of-requires : tie.Need-channel-of-requires
-channel-of-requires c κs = search needs
-
-request-of-requires : tie.Need-request-of-requires
-request-of-requires c κs = search needs
-
-still-registered-requires : tie.Need-still-registered-requires
-still-registered-requires c κs = search needs
-
-put-late-reply-requires : tie.Need-put-late-reply-requires
-put-late-reply-requires c κs = search needs
-
-clear-removal-requires : tie.Need-clear-removal-requires
-clear-removal-requires c κs = search needs
-
-removal-end-requires : tie.Need-removal-end-requires
-removal-end-requires c κs = search needs
-
-same-length : tie.Need-same-length
-same-length c = search needs
-
 abbrev asked : tie.After-still-registered → tie.After-request-of
 asked c = c .before .before
 
 returns : tie.Need-returns
 returns c = let r = c .before .before .before .before .before in let t = r .before .before .before in let q = asked (t .before) in ends-replied _ _ _ (channel-is _ (q .before .before .channel-of .ensures)) (request-is _ (q .request-of .ensures)) (sym (t .before .still-registered .ensures) ∙ t .if1 .taken) (q .before .before .before .before .end-code .ensures) (r .put-late-reply .ensures) (c .removal-end .ensures) (c .before .clear-removal .ensures)
-
-clear-removal-requires-2 : tie.Need-clear-removal-requires-2
-clear-removal-requires-2 c κs = search needs
-
-removal-end-requires-2 : tie.Need-removal-end-requires-2
-removal-end-requires-2 c κs = search needs
 
 returns-2 : tie.Need-returns-2
 returns-2 c = let t = c .before .before .before in let q = asked (t .before) in ends-silent _ _ _ (channel-is _ (q .before .before .channel-of .ensures)) (request-is _ (q .request-of .ensures)) (sym (t .before .still-registered .ensures) ∙ t .if1 .left) (q .before .before .before .before .end-code .ensures) (c .removal-end2 .ensures) (c .before .clear-removal2 .ensures)
@@ -48,15 +18,15 @@ pub end-removal-spec : {M : Type 1} → statement M
 end-removal-spec =
     tie.close
     (tie.spec
-    end-code-requires
-    channel-of-requires
-    request-of-requires
-    still-registered-requires
-    put-late-reply-requires
-    clear-removal-requires
-    removal-end-requires
-    same-length
+    (λ c κs. search needs)
+    (λ c κs. search needs)
+    (λ c κs. search needs)
+    (λ c κs. search needs)
+    (λ c κs. search needs)
+    (λ c κs. search needs)
+    (λ c κs. search needs)
+    (λ c. search needs)
     returns
-    clear-removal-requires-2
-    removal-end-requires-2
+    (λ c κs. search needs)
+    (λ c κs. search needs)
     returns-2)

@@ -4,18 +4,9 @@ use borrow.Author.Needs.{needs}
 use Rattle.removal.proofs.is_over.Statement.{statement}
 use Rattle.removal.proofs.is_over.Tie as tie
 
-is-cancelled-requires : tie.Need-is-cancelled-requires
-is-cancelled-requires c κs = search needs
-
 returns : tie.Need-returns
 unfolding _or_
 returns c = rw (cancelled-is _ (c .before .is-cancelled .ensures) (c .if1 .taken))
-
-count-of-requires : tie.Need-count-of-requires
-count-of-requires c κs = search needs
-
-position-of-requires : tie.Need-position-of-requires
-position-of-requires c κs = search needs
 
 returns-2 : tie.Need-returns-2
 unfolding _or_
@@ -24,4 +15,4 @@ returns-2 c = rw (cancelled-is _ (c .before .before .before .is-cancelled .ensur
 pub is-over-spec : {M : Type 1} → statement M
 is-over-spec =
     tie.close
-    (tie.spec is-cancelled-requires returns count-of-requires position-of-requires returns-2)
+    (tie.spec (λ c κs. search needs) returns (λ c κs. search needs) (λ c κs. search needs) returns-2)

@@ -22,23 +22,11 @@ loop-holds : tie.Need-loop-holds Inv-loop μ-loop
 unfolding joined
 loop-holds c = (omega arith, refl, refl)
 
-address-of-requires : tie.Need-address-of-requires Inv-loop μ-loop
-address-of-requires c κs = omega arith
-
-size-of-requires : tie.Need-size-of-requires Inv-loop μ-loop
-size-of-requires c κs = omega arith
-
 result-at-requires : tie.Need-result-at-requires Inv-loop μ-loop
 result-at-requires c κs = (omega arith, c .before .before .before .before .before .pre .2)
 
 put-result-requires : tie.Need-put-result-requires Inv-loop μ-loop
 put-result-requires c κs = (omega arith, c .before .before .before .before .before .before .before .pre .0, omega arith)
-
-add-i : tie.Need-add-i Inv-loop μ-loop
-add-i c = omega arith
-
-loop-less : tie.Need-loop-less Inv-loop μ-loop
-loop-less c = omega arith
 
 loop-again : tie.Need-loop-again Inv-loop μ-loop
 loop-again c =
@@ -60,12 +48,12 @@ put-late-records-spec =
     Inv-loop
     μ-loop
     loop-holds
-    address-of-requires
-    size-of-requires
+    (λ c κs. omega arith)
+    (λ c κs. omega arith)
     result-at-requires
     put-result-requires
-    add-i
-    loop-less
+    (λ c. omega arith)
+    (λ c. omega arith)
     loop-again
     same-length
     returns)

@@ -7,15 +7,6 @@ use borrow.Author.Needs.{needs}
 use Rattle.removal.proofs.put_late_reply.Statement.{statement}
 use Rattle.removal.proofs.put_late_reply.Tie as tie
 
-count-of-requires : tie.Need-count-of-requires
-count-of-requires c κs = search needs
-
-handle-of-requires : tie.Need-handle-of-requires
-handle-of-requires c κs = search needs
-
-request-of-requires : tie.Need-request-of-requires
-request-of-requires c κs = search needs
-
 put-results-header-requires : tie.Need-put-results-header-requires
 unfolding removalOf
 put-results-header-requires c κs = let p = c .before .before .before .before .before .pre in (omega (arith, p .0 .records), omega (arith, p .2))
@@ -24,9 +15,6 @@ put-late-records-requires : tie.Need-put-late-records-requires
 unfolding removalOf
 put-late-records-requires c κs = let p = c .before .before .before .before .before .before .before .before .before .pre in (p .0 .blocks, omega (arith, p .0 .records), p .1, omega arith)
 
-same-length : tie.Need-same-length
-same-length c = search needs
-
 returns : tie.Need-returns
 returns c = let h = c .before .before .before .before .before .before in let q = h .before .before in let p = q .before .before .before .before .pre in late-written _ _ (count-is _ (q .before .before .count-of .ensures)) (handle-is _ (q .before .handle-of .ensures)) (request-is _ (q .request-of .ensures)) (p .0 .records) (p .2) (h .put-results-header .ensures) (c .before .before .put-late-records .ensures)
 
@@ -34,10 +22,10 @@ pub put-late-reply-spec : {M : Type 1} → statement M
 put-late-reply-spec =
     tie.close
     (tie.spec
-    count-of-requires
-    handle-of-requires
-    request-of-requires
+    (λ c κs. search needs)
+    (λ c κs. search needs)
+    (λ c κs. search needs)
     put-results-header-requires
     put-late-records-requires
-    same-length
+    (λ c. search needs)
     returns)

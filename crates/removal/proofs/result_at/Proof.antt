@@ -3,17 +3,8 @@ use borrow.Author.Needs.{needs}
 use Rattle.removal.proofs.result_at.Statement.{statement}
 use Rattle.removal.proofs.result_at.Tie as tie
 
-position-of-requires : tie.Need-position-of-requires
-position-of-requires c κs = search needs
-
-result-of-requires : tie.Need-result-of-requires
-result-of-requires c κs = search needs
-
 returns : tie.Need-returns
 returns c = result-settled _ _ (c .before .before .position-of .ensures) (c .before .before .before .pre .0) (c .before .if1 .taken) (c .result-of .ensures)
-
-is-cancelled-requires : tie.Need-is-cancelled-requires
-is-cancelled-requires c κs = search needs
 
 returns-2 : tie.Need-returns-2
 returns-2 c = let p = c .before .before .before in result-cancelled _ _ (p .position-of .ensures) (c .before .before .if1 .left) (c .before .is-cancelled .ensures) (c .if2 .taken)
@@ -28,10 +19,10 @@ pub result-at-spec : {M : Type 1} → statement M
 result-at-spec =
     tie.close
     (tie.spec
-    position-of-requires
-    result-of-requires
+    (λ c κs. search needs)
+    (λ c κs. search needs)
     returns
-    is-cancelled-requires
+    (λ c κs. search needs)
     returns-2
     returns-3
     returns-4)

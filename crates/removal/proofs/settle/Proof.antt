@@ -6,15 +6,6 @@ use borrow.Author.Needs.{needs}
 use Rattle.removal.proofs.settle.Statement.{statement}
 use Rattle.removal.proofs.settle.Tie as tie
 
-channel-of-requires : tie.Need-channel-of-requires
-channel-of-requires c κs = search needs
-
-position-of-requires : tie.Need-position-of-requires
-position-of-requires c κs = search needs
-
-settle-requires : tie.Need-settle-requires
-settle-requires c κs = search needs
-
 settled-requires : tie.Need-settled-requires
 unfolding removalOf
 settled-requires c κs = (omega arith, c .before .before .before .before .before .before .pre .2)
@@ -26,4 +17,4 @@ returns c = record { noReply = refl; length′ = refl; notes = c .settled .ensur
 pub settle-spec : {M : Type 1} → statement M
 settle-spec =
     tie.close
-    (tie.spec channel-of-requires position-of-requires settle-requires settled-requires returns)
+    (tie.spec (λ c κs. search needs) (λ c κs. search needs) (λ c κs. search needs) settled-requires returns)

@@ -6,14 +6,8 @@ use borrow.Author.Needs.{needs}
 use Rattle.removal.proofs.step.Statement.{statement}
 use Rattle.removal.proofs.step.Tie as tie
 
-is-over-requires : tie.Need-is-over-requires
-is-over-requires c κs = search needs
-
 end-step-requires : tie.Need-end-step-requires
 end-step-requires c κs = let p = c .before .before .before .before .before .before .pre in (fits _ (p .0) (p .1), facts _ (p .0) (p .1) .channels, p .2)
-
-same-length : tie.Need-same-length
-same-length c = search needs
 
 returns : tie.Need-returns
 returns c = let t = c .before .before .before .before .before in step-over _ _ _ (sym (t .before .is-over .ensures) ∙ t .if1 .taken) (c .before .before .end-step .ensures)
@@ -24,9 +18,6 @@ block-now-requires c κs = let t = c .before in let p = t .before .before .befor
 work-found-requires : tie.Need-work-found-requires
 work-found-requires c κs = let t = c .before .before .before .before in let p = t .before .before .before .before .pre in (can-work _ (p .0) (p .1) (sym (t .before .is-over .ensures) ∙ t .if1 .left), sym (c .before .before .block-now .ensures), p .2)
 
-same-length-2 : tie.Need-same-length-2
-same-length-2 c = search needs
-
 returns-2 : tie.Need-returns-2
 returns-2 c = let t = c .before .before .before .before .before .before .before in step-found _ _ _ (sym (t .before .is-over .ensures) ∙ t .if1 .left) (c .before .before .before .before .before .block-now .ensures) (c .before .before .work-found .ensures)
 
@@ -34,11 +25,11 @@ pub step-spec : {M : Type 1} → statement M
 step-spec =
     tie.close
     (tie.spec
-    is-over-requires
+    (λ c κs. search needs)
     end-step-requires
-    same-length
+    (λ c. search needs)
     returns
     block-now-requires
     work-found-requires
-    same-length-2
+    (λ c. search needs)
     returns-2)

@@ -8,9 +8,6 @@ use borrow.Author.Needs.{needs}
 use Rattle.removal.proofs.still_registered.Statement.{statement}
 use Rattle.removal.proofs.still_registered.Tie as tie
 
-channel-of-requires : tie.Need-channel-of-requires
-channel-of-requires c κs = search needs
-
 mul-k : tie.Need-mul-k
 unfolding removalOf
 mul-k c = omega arith
@@ -31,9 +28,6 @@ handle-of-requires : tie.Need-handle-of-requires
 unfolding removalOf
 handle-of-requires c κs = omega arith
 
-handle-of-requires-2 : tie.Need-handle-of-requires-2
-handle-of-requires-2 c κs = search needs
-
 returns-2 : tie.Need-returns-2
 unfolding _and_
 returns-2 c = let t = c .before .before in rw (← channel-is _ (t .before .before .channel-of .ensures), ← handle-is _ (c .handle-of2 .ensures), ← t .before .stage-of .ensures, ← c .before .handle-of .ensures, eq-eqb _ _ (t .if1 .left))
@@ -42,11 +36,11 @@ pub still-registered-spec : {M : Type 1} → statement M
 still-registered-spec =
     tie.close
     (tie.spec
-    channel-of-requires
+    (λ c κs. search needs)
     mul-k
     add-k
     stage-of-requires
     returns
     handle-of-requires
-    handle-of-requires-2
+    (λ c κs. search needs)
     returns-2)

@@ -7,12 +7,6 @@ use Rattle.removal.proofs.work_at.Tie as tie
 permanent-of-requires : tie.Need-permanent-of-requires
 permanent-of-requires c κs = let p = c .before .before .pre in goes-on _ _ (p .0) (p .1) .known
 
-end-step-requires : tie.Need-end-step-requires
-end-step-requires c κs = search needs
-
-same-length : tie.Need-same-length
-same-length c = search needs
-
 returns : tie.Need-returns
 returns c = let t = c .before .before .before .before .before in at-permanent _ _ _ _ _ (λ e. t .if1 .taken (t .before .permanent-of .ensures ∙ e)) (c .before .before .end-step .ensures)
 
@@ -27,8 +21,8 @@ work-at-spec =
     tie.close
     (tie.spec
     permanent-of-requires
-    end-step-requires
-    same-length
+    (λ c κs. search needs)
+    (λ c. search needs)
     returns
     work-on-requires
     returns-2)

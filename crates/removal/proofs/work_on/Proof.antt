@@ -8,20 +8,8 @@ use borrow.Author.Needs.{needs}
 use Rattle.removal.proofs.work_on.Statement.{statement}
 use Rattle.removal.proofs.work_on.Tie as tie
 
-configured-of-requires : tie.Need-configured-of-requires
-configured-of-requires c κs = search needs
-
-settle-requires : tie.Need-settle-requires
-settle-requires c κs = search needs
-
 returns : tie.Need-returns
 returns c = let t = c .before .before in works-nowork _ _ _ _ (sym (t .before .configured-of .ensures) ∙ t .if1 .taken) (c .settle .ensures)
-
-pages-of-requires : tie.Need-pages-of-requires
-pages-of-requires c κs = search needs
-
-collected-of-requires : tie.Need-collected-of-requires
-collected-of-requires c κs = search needs
 
 pages-moved-requires : tie.Need-pages-moved-requires
 unfolding removalOf
@@ -38,11 +26,11 @@ pub work-on-spec : {M : Type 1} → statement M
 work-on-spec =
     tie.close
     (tie.spec
-    configured-of-requires
-    settle-requires
+    (λ c κs. search needs)
+    (λ c κs. search needs)
     returns
-    pages-of-requires
-    collected-of-requires
+    (λ c κs. search needs)
+    (λ c κs. search needs)
     pages-moved-requires
     collect-requires
     returns-2)

@@ -6,18 +6,9 @@ use borrow.Author.Needs.{needs}
 use Rattle.removal_state.proofs.add_pages.Statement.{statement}
 use Rattle.removal_state.proofs.add_pages.Tie as tie
 
-word-count-requires : tie.Need-word-count-requires
-word-count-requires c κs = search needs
-
-element-copy-out-state : tie.Need-element-copy-out-state
-element-copy-out-state c = search needs
-
 add-state : tie.Need-add-state
 unfolding removalOf
 add-state c = omega arith
-
-element-write-state : tie.Need-element-write-state
-element-write-state c = search needs
 
 returns : tie.Need-returns
 unfolding removalOf
@@ -26,4 +17,4 @@ returns c = let p = c .before .before .before .pre in sym (collecting-words _ (c
 pub add-pages-spec : {M : Type 1} → statement M
 add-pages-spec =
     tie.close
-    (tie.spec word-count-requires element-copy-out-state add-state element-write-state returns)
+    (tie.spec (λ c κs. search needs) (λ c. search needs) add-state (λ c. search needs) returns)

@@ -23,21 +23,6 @@ loop-holds c = (omega arith, refl)
 number-of-requires : tie.Need-number-of-requires Inv-loop μ-loop
 number-of-requires c κs = (omega arith, omega arith, omega arith)
 
-add-state : tie.Need-add-state Inv-loop μ-loop
-add-state c = omega arith
-
-mul-state : tie.Need-mul-state Inv-loop μ-loop
-mul-state c = omega arith
-
-element-write-state : tie.Need-element-write-state Inv-loop μ-loop
-element-write-state c = omega arith
-
-add-i : tie.Need-add-i Inv-loop μ-loop
-add-i c = omega arith
-
-loop-less : tie.Need-loop-less Inv-loop μ-loop
-loop-less c = omega arith
-
 loop-again : tie.Need-loop-again Inv-loop μ-loop
 loop-again c =
     let l = c .before .before .loop in
@@ -62,10 +47,10 @@ put-column-spec =
     μ-loop
     loop-holds
     number-of-requires
-    add-state
-    mul-state
-    element-write-state
-    add-i
-    loop-less
+    (λ c. omega arith)
+    (λ c. omega arith)
+    (λ c. omega arith)
+    (λ c. omega arith)
+    (λ c. omega arith)
     loop-again
     returns)

@@ -6,12 +6,6 @@ use borrow.Author.Needs.{needs}
 use Rattle.removal_state.proofs.settle.Statement.{statement}
 use Rattle.removal_state.proofs.settle.Tie as tie
 
-word-count-requires : tie.Need-word-count-requires
-word-count-requires c κs = search needs
-
-element-copy-out-position : tie.Need-element-copy-out-position
-element-copy-out-position c = search needs
-
 add-state : tie.Need-add-state
 unfolding removalOf
 add-state c = omega arith
@@ -28,12 +22,6 @@ add-state-2 : tie.Need-add-state-2
 unfolding removalOf
 add-state-2 c = omega arith
 
-element-write-state-2 : tie.Need-element-write-state-2
-element-write-state-2 c = search needs
-
-element-write-state-3 : tie.Need-element-write-state-3
-element-write-state-3 c = search needs
-
 returns : tie.Need-returns
 unfolding removalOf
 returns c = let p = c .before .before .before .pre in sym (settled-words _ (c .before .word-count .ensures .1) (p .0) (p .1) _ (p .2))
@@ -42,12 +30,12 @@ pub settle-spec : {M : Type 1} → statement M
 settle-spec =
     tie.close
     (tie.spec
-    word-count-requires
-    element-copy-out-position
+    (λ c κs. search needs)
+    (λ c. search needs)
     add-state
     mul-state
     element-write-state
     add-state-2
-    element-write-state-2
-    element-write-state-3
+    (λ c. search needs)
+    (λ c. search needs)
     returns)

@@ -9,15 +9,6 @@ use Rattle.requests.proofs.decode.Tie as tie
 returns : tie.Need-returns
 returns c = short-is _ (c .if1 .taken)
 
-get32-requires : tie.Need-get32-requires
-get32-requires c κs = search needs
-
-cast-kind : tie.Need-cast-kind
-cast-kind c = search needs
-
-has-nothing-requires : tie.Need-has-nothing-requires
-has-nothing-requires c κs = search needs
-
 returns-2 : tie.Need-returns-2
 unfolding pick
 returns-2 c = status-is _ (c .before .before .before .before .if1 .left) _ (c .before .before .before .get32 .ensures .0) (c .before .before .if2 .taken) true (sym (c .if3 .taken) ∙ c .before .has-nothing .ensures)
@@ -25,9 +16,6 @@ returns-2 c = status-is _ (c .before .before .before .before .if1 .left) _ (c .b
 returns-3 : tie.Need-returns-3
 unfolding pick
 returns-3 c = status-is _ (c .before .before .before .before .if1 .left) _ (c .before .before .before .get32 .ensures .0) (c .before .before .if2 .taken) false (sym (c .if3 .left) ∙ c .before .has-nothing .ensures)
-
-has-nothing-requires-2 : tie.Need-has-nothing-requires-2
-has-nothing-requires-2 c κs = search needs
 
 returns-4 : tie.Need-returns-4
 unfolding pick
@@ -37,24 +25,18 @@ returns-5 : tie.Need-returns-5
 unfolding pick
 returns-5 c = cancel-is _ (c .before .before .before .before .before .if1 .left) _ (c .before .before .before .before .get32 .ensures .0) (c .before .before .if4 .taken) false (sym (c .if5 .left) ∙ c .before .has-nothing2 .ensures)
 
-decode-records-requires : tie.Need-decode-records-requires
-decode-records-requires c κs = search needs
-
-returns-6 : tie.Need-returns-6
-returns-6 c = search needs
-
 pub decode-spec : {M : Type 1} → statement M
 decode-spec =
     tie.close
     (tie.spec
     returns
-    get32-requires
-    cast-kind
-    has-nothing-requires
+    (λ c κs. search needs)
+    (λ c. search needs)
+    (λ c κs. search needs)
     returns-2
     returns-3
-    has-nothing-requires-2
+    (λ c κs. search needs)
     returns-4
     returns-5
-    decode-records-requires
-    returns-6)
+    (λ c κs. search needs)
+    (λ c. search needs))

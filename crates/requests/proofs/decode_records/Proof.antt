@@ -4,14 +4,8 @@ use borrow.Author.Needs.{needs}
 use Rattle.requests.proofs.decode_records.Statement.{statement}
 use Rattle.requests.proofs.decode_records.Tie as tie
 
-has-records-requires : tie.Need-has-records-requires
-has-records-requires c κs = search needs
-
 returns : tie.Need-returns
 returns c = let p = c .before .before .before .pre in none-is _ (p .0) _ (p .1) (p .2) (p .3) (no _ (c .before .has-records .ensures) (c .if1 .taken))
-
-get32-requires : tie.Need-get32-requires
-get32-requires c κs = search needs
 
 returns-2 : tie.Need-returns-2
 returns-2 c = let p = c .before .before .before .before .before .pre in configure-is _ (p .0) _ (p .1) _ (c .before .get32 .ensures .0) (c .if2 .taken) (yes _ (c .before .before .before .has-records .ensures) (c .before .before .if1 .left))
@@ -28,4 +22,4 @@ returns-5 c = let p = c .before .before .before .before .before .before .before 
 pub decode-records-spec : {M : Type 1} → statement M
 decode-records-spec =
     tie.close
-    (tie.spec has-records-requires returns get32-requires returns-2 returns-3 returns-4 returns-5)
+    (tie.spec (λ c κs. search needs) returns (λ c κs. search needs) returns-2 returns-3 returns-4 returns-5)

@@ -5,9 +5,6 @@ use borrow.Author.Needs.{needs}
 use Rattle.requests.proofs.has_nothing.Statement.{statement}
 use Rattle.requests.proofs.has_nothing.Tie as tie
 
-get32-requires : tie.Need-get32-requires
-get32-requires c κs = search needs
-
 returns : tie.Need-returns
 unfolding hasNothing _and_
 returns c = rw (← c .before .get32 .ensures .0, ne-eqb _ _ (c .if1 .taken))
@@ -17,4 +14,4 @@ unfolding hasNothing _and_
 returns-2 c = rw (← c .before .get32 .ensures .0, c .if1 .left)
 
 pub has-nothing-spec : {M : Type 1} → statement M
-has-nothing-spec = tie.close (tie.spec get32-requires returns returns-2)
+has-nothing-spec = tie.close (tie.spec (λ c κs. search needs) returns returns-2)

@@ -6,14 +6,8 @@ use Rattle.model.specs.Messages.{Service}
 use Rattle.services.proofs.minor.Statement.{statement}
 use Rattle.services.proofs.minor.Tie as tie
 
-row-of-requires : tie.Need-row-of-requires
-row-of-requires c κs = search needs
-
-cast-result : tie.Need-cast-result
-cast-result c = search needs
-
 returns : tie.Need-returns
 returns c = ap (λ (s : Service). s .minor) (c .before .row-of .ensures .same)
 
 pub minor-spec : {M : Type 1} → statement M
-minor-spec = tie.close (tie.spec row-of-requires cast-result returns)
+minor-spec = tie.close (tie.spec (λ c κs. search needs) (λ c. search needs) returns)

@@ -5,15 +5,9 @@ use Rattle.model.specs.Messages.{initAck}
 use Rattle.services.proofs.put_init_ack.Statement.{statement}
 use Rattle.services.proofs.put_init_ack.Tie as tie
 
-put-version-requires : tie.Need-put-version-requires
-put-version-requires c κs = search needs
-
-same-length : tie.Need-same-length
-same-length c = search needs
-
 returns : tie.Need-returns
 unfolding initAck
 returns c = search needs
 
 pub put-init-ack-spec : {M : Type 1} → statement M
-put-init-ack-spec = tie.close (tie.spec put-version-requires same-length returns)
+put-init-ack-spec = tie.close (tie.spec (λ c κs. search needs) (λ c. search needs) returns)

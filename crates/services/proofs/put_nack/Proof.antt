@@ -9,15 +9,9 @@ use Rattle.services.proofs.Parts.{message-stored}
 use Rattle.services.proofs.put_nack.Statement.{statement}
 use Rattle.services.proofs.put_nack.Tie as tie
 
-put-result-requires : tie.Need-put-result-requires
-put-result-requires c κs = search needs
-
-same-length : tie.Need-same-length
-same-length c = search needs
-
 returns : tie.Need-returns
 unfolding bytesOf nack
 returns c = message-stored _ 16 _ _ refl refl (omega arith) (c .before .before .put-result .ensures)
 
 pub put-nack-spec : {M : Type 1} → statement M
-put-nack-spec = tie.close (tie.spec put-result-requires same-length returns)
+put-nack-spec = tie.close (tie.spec (λ c κs. search needs) (λ c. search needs) returns)

@@ -9,18 +9,6 @@ use Rattle.services.proofs.Parts.{message-stored}
 use Rattle.services.proofs.put_reg_ack.Statement.{statement}
 use Rattle.services.proofs.put_reg_ack.Tie as tie
 
-put-header-requires : tie.Need-put-header-requires
-put-header-requires c κs = search needs
-
-put64-requires : tie.Need-put64-requires
-put64-requires c κs = search needs
-
-put16-requires : tie.Need-put16-requires
-put16-requires c κs = search needs
-
-same-length : tie.Need-same-length
-same-length c = search needs
-
 returns : tie.Need-returns
 unfolding bytesOf regAck
 returns c =
@@ -29,4 +17,4 @@ returns c =
     message-stored _ 10 _ _ refl refl (omega arith) (rw (c .before .before .put16 .ensures, c₆ .put64 .ensures, c₁₀ .put-header .ensures))
 
 pub put-reg-ack-spec : {M : Type 1} → statement M
-put-reg-ack-spec = tie.close (tie.spec put-header-requires put64-requires put16-requires same-length returns)
+put-reg-ack-spec = tie.close (tie.spec (λ c κs. search needs) (λ c κs. search needs) (λ c κs. search needs) (λ c. search needs) returns)

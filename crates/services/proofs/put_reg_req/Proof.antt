@@ -11,30 +11,6 @@ use Rattle.services.proofs.Parts.{message-stored}
 use Rattle.services.proofs.put_reg_req.Statement.{statement}
 use Rattle.services.proofs.put_reg_req.Tie as tie
 
-row-of-requires : tie.Need-row-of-requires
-row-of-requires c κs = search needs
-
-add-put-header : tie.Need-add-put-header
-add-put-header c = search needs
-
-cast-put-header : tie.Need-cast-put-header
-cast-put-header c = search needs
-
-put-header-requires : tie.Need-put-header-requires
-put-header-requires c κs = search needs
-
-put64-requires : tie.Need-put64-requires
-put64-requires c κs = search needs
-
-put-row-requires : tie.Need-put-row-requires
-put-row-requires c κs = search needs
-
-add-result : tie.Need-add-result
-add-result c = search needs
-
-same-length : tie.Need-same-length
-same-length c = search needs
-
 returns : tie.Need-returns
 unfolding bytesOf regReq
 returns c =
@@ -49,12 +25,12 @@ pub put-reg-req-spec : {M : Type 1} → statement M
 put-reg-req-spec =
     tie.close
     (tie.spec
-    row-of-requires
-    add-put-header
-    cast-put-header
-    put-header-requires
-    put64-requires
-    put-row-requires
-    add-result
-    same-length
+    (λ c κs. search needs)
+    (λ c. search needs)
+    (λ c. search needs)
+    (λ c κs. search needs)
+    (λ c κs. search needs)
+    (λ c κs. search needs)
+    (λ c. search needs)
+    (λ c. search needs)
     returns)

@@ -12,8 +12,5 @@ row-in-requires : tie.Need-row-in-requires
 unfolding _and_ every services endsInZero rowFits
 row-in-requires c κs = (record { same = refl; fits = refl }, c .pre)
 
-returns : tie.Need-returns
-returns c = search needs
-
 pub row-of-spec : {M : Type 1} → statement M
-row-of-spec = tie.close (tie.spec row-in-requires returns)
+row-of-spec = tie.close (tie.spec row-in-requires (λ c. search needs))

@@ -13,17 +13,11 @@ use Rattle.vio_rules.proofs.answered.Tie as tie
 session-of-requires : tie.Need-session-of-requires
 session-of-requires c κs = sound-facts _ (c .before .pre) .size
 
-enum-known-session : tie.Need-enum-known-session
-enum-known-session c = search needs
-
 returns : tie.Need-returns
 unfolding endOf
 returns c = let a = c .before .before .before .args in
     ignores (endOf (a .end .now)) (a .next) (a .m) _ (c .match .keys2)
     ∙ ap (λ (s : Session). answered (endOf (a .end .now)) (a .next) s (a .m)) (c .before .session-of .ensures)
-
-answers-open-requires : tie.Need-answers-open-requires
-answers-open-requires c κs = search needs
 
 returns-2 : tie.Need-returns-2
 unfolding endOf answered
@@ -35,4 +29,4 @@ returns-2 c = let d = c .before .before in
 pub answered-spec : {M : Type 1} → statement M
 answered-spec =
     tie.close
-    (tie.spec session-of-requires enum-known-session returns answers-open-requires returns-2)
+    (tie.spec session-of-requires (λ c. search needs) returns (λ c κs. search needs) returns-2)

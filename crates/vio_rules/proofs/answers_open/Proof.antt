@@ -22,22 +22,10 @@ returns-2 : tie.Need-returns-2
 unfolding answersOpen pick _and_ endOf
 returns-2 c = rw (eq-eqb _ _ (c .before .before .before .if1 .left), ne-eqb _ _ (c .if2 .taken))
 
-is-version-requires : tie.Need-is-version-requires
-is-version-requires c κs = search needs
-
-acknowledged-requires : tie.Need-acknowledged-requires
-acknowledged-requires c κs = search needs
-
 returns-3 : tie.Need-returns-3
 unfolding answersOpen pick _and_ endOf
 returns-3 c = let d = c .before .before .before in
     rw (eq-eqb _ _ (d .before .before .before .if1 .left), eq-eqb _ _ (d .if2 .left), sym (c .before .before .is-version .ensures) ∙ c .before .if3 .taken) (c .acknowledged .ensures)
-
-is-version-requires-2 : tie.Need-is-version-requires-2
-is-version-requires-2 c κs = search needs
-
-refused-requires : tie.Need-refused-requires
-refused-requires c κs = search needs
 
 returns-4 : tie.Need-returns-4
 unfolding answersOpen pick _and_ endOf
@@ -58,10 +46,10 @@ answers-open-spec =
     returns
     shared-slice-read-if2
     returns-2
-    is-version-requires
-    acknowledged-requires
+    (λ c κs. search needs)
+    (λ c κs. search needs)
     returns-3
-    is-version-requires-2
-    refused-requires
+    (λ c κs. search needs)
+    (λ c κs. search needs)
     returns-4
     returns-5)

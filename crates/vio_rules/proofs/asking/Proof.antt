@@ -10,20 +10,11 @@ use Rattle.vio_rules.proofs.asking.Tie as tie
 versions-of-requires : tie.Need-versions-of-requires
 versions-of-requires c κs = let f = sound-facts _ (c .before .pre) in (f .size, f .few)
 
-highest-below-requires : tie.Need-highest-below-requires
-highest-below-requires c κs = search needs
-
 returns : tie.Need-returns
 returns c = ends _ _ (c .before .before .versions-of .ensures) _ _ _ (c .before .highest-below .ensures) (c .if1 .taken)
 
-minor-of-requires : tie.Need-minor-of-requires
-minor-of-requires c κs = search needs
-
 shared-slice-read-message : tie.Need-shared-slice-read-message
 shared-slice-read-message c = let f = sound-facts _ (c .before .before .before .before .before .before .pre) in omega arith
-
-message-requires : tie.Need-message-requires
-message-requires c κs = search needs
 
 returns-2 : tie.Need-returns-2
 returns-2 c = let d = c .before .before .before in
@@ -35,9 +26,9 @@ asking-spec =
     tie.close
     (tie.spec
     versions-of-requires
-    highest-below-requires
+    (λ c κs. search needs)
     returns
-    minor-of-requires
+    (λ c κs. search needs)
     shared-slice-read-message
-    message-requires
+    (λ c κs. search needs)
     returns-2)

@@ -7,18 +7,9 @@ use Rattle.vio_model.specs.Rules.{heard}
 use Rattle.vio_rules.proofs.heard.Statement.{statement}
 use Rattle.vio_rules.proofs.heard.Tie as tie
 
-is-version-requires : tie.Need-is-version-requires
-is-version-requires c κs = search needs
-
-requested-requires : tie.Need-requested-requires
-requested-requires c κs = search needs
-
 returns : tie.Need-returns
 unfolding heard pick
 returns c = rw (sym (c .before .before .is-version .ensures) ∙ c .before .if1 .taken) (c .requested .ensures)
-
-answered-requires : tie.Need-answered-requires
-answered-requires c κs = search needs
 
 returns-2 : tie.Need-returns-2
 unfolding heard pick
@@ -26,4 +17,4 @@ returns-2 c = rw (sym (c .before .before .is-version .ensures) ∙ c .before .if
 
 pub heard-spec : {M : Type 1} → statement M
 heard-spec =
-    tie.close (tie.spec is-version-requires requested-requires returns answered-requires returns-2)
+    tie.close (tie.spec (λ c κs. search needs) (λ c κs. search needs) returns (λ c κs. search needs) returns-2)

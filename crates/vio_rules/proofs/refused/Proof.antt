@@ -11,15 +11,9 @@ use Rattle.vio_model.specs.Rules.{refused}
 use Rattle.vio_rules.proofs.refused.Statement.{statement}
 use Rattle.vio_rules.proofs.refused.Tie as tie
 
-is-unchanged-requires : tie.Need-is-unchanged-requires
-is-unchanged-requires c κs = search needs
-
 returns : tie.Need-returns
 unfolding refused pick
 returns c = rw (sym (c .before .is-unchanged .ensures) ∙ c .if1 .taken)
-
-tells-lower-requires : tie.Need-tells-lower-requires
-tells-lower-requires c κs = search needs
 
 returns-2 : tie.Need-returns-2
 unfolding refused pick
@@ -42,9 +36,9 @@ pub refused-spec : {M : Type 1} → statement M
 refused-spec =
     tie.close
     (tie.spec
-    is-unchanged-requires
+    (λ c κs. search needs)
     returns
-    tells-lower-requires
+    (λ c κs. search needs)
     returns-2
     add-asking
     asking-requires

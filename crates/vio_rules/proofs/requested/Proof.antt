@@ -10,40 +10,16 @@ use Rattle.vio_rules.proofs.requested.Tie as tie
 shared-slice-read-if1 : tie.Need-shared-slice-read-if1
 shared-slice-read-if1 c = let f = sound-facts _ (c .before .before .pre) in omega arith
 
-message-requires : tie.Need-message-requires
-message-requires c κs = search needs
-
 returns : tie.Need-returns
 returns c = refuses _ _ _ (c .before .if1 .taken) (c .message .ensures)
 
 versions-of-requires : tie.Need-versions-of-requires
 versions-of-requires c κs = let f = sound-facts _ (c .before .before .before .before .pre) in (f .size, f .few)
 
-holds-requires : tie.Need-holds-requires
-holds-requires c κs = search needs
-
-minor-of-requires : tie.Need-minor-of-requires
-minor-of-requires c κs = search needs
-
-lower-requires : tie.Need-lower-requires
-lower-requires c κs = search needs
-
-message-requires-2 : tie.Need-message-requires-2
-message-requires-2 c κs = search needs
-
 returns-2 : tie.Need-returns-2
 returns-2 c = let d = c .before .before .before in
     acks _ _ _ (d .before .before .versions-of .ensures) _ (d .before .holds .ensures) (d .before .before .before .if1 .left) _ _ _
     (d .if2 .taken) (c .before .before .minor-of .ensures) (c .before .lower .ensures) (c .message2 .ensures)
-
-highest-below-requires : tie.Need-highest-below-requires
-highest-below-requires c κs = search needs
-
-minor-of-requires-2 : tie.Need-minor-of-requires-2
-minor-of-requires-2 c κs = search needs
-
-message-requires-3 : tie.Need-message-requires-3
-message-requires-3 c κs = search needs
 
 returns-3 : tie.Need-returns-3
 returns-3 c = let d = c .before .before .before in
@@ -55,15 +31,15 @@ requested-spec =
     tie.close
     (tie.spec
     shared-slice-read-if1
-    message-requires
+    (λ c κs. search needs)
     returns
     versions-of-requires
-    holds-requires
-    minor-of-requires
-    lower-requires
-    message-requires-2
+    (λ c κs. search needs)
+    (λ c κs. search needs)
+    (λ c κs. search needs)
+    (λ c κs. search needs)
     returns-2
-    highest-below-requires
-    minor-of-requires-2
-    message-requires-3
+    (λ c κs. search needs)
+    (λ c κs. search needs)
+    (λ c κs. search needs)
     returns-3)

@@ -29,19 +29,10 @@ returns-3 c = refute _ (λ t. let r = list-rules _ t in omega arith)
 loop-holds : tie.Need-loop-holds Inv-loop μ-loop
 loop-holds c = (omega arith, every-none _)
 
-version-keeps-requires : tie.Need-version-keeps-requires Inv-loop μ-loop
-version-keeps-requires c κs = omega arith
-
 returns-4 : tie.Need-returns-4 Inv-loop μ-loop
 returns-4 c = let b = c .before .before .before .before in
     every-fails _ _ _ (c .before .before .loop-test .taken) (no _ (c .before .version-keeps .ensures) (c .if4 .taken))
     ∙ sym (list-last _ (omega arith) (omega arith) (omega arith))
-
-add-i : tie.Need-add-i Inv-loop μ-loop
-add-i c = omega arith
-
-loop-less : tie.Need-loop-less Inv-loop μ-loop
-loop-less c = omega arith
 
 loop-again : tie.Need-loop-again Inv-loop μ-loop
 loop-again c = (omega arith, every-more _ _ (c .before .before .before .loop .inv .1) (yes _ (c .before .version-keeps .ensures) (c .if4 .left)))
@@ -60,9 +51,9 @@ accepted-list-spec =
     returns-2
     returns-3
     loop-holds
-    version-keeps-requires
+    (λ c κs. omega arith)
     returns-4
-    add-i
-    loop-less
+    (λ c. omega arith)
+    (λ c. omega arith)
     loop-again
     returns-5)

@@ -17,23 +17,8 @@ abbrev μ-loop : tie.MeasureT-loop
 loop-holds : tie.Need-loop-holds Inv-loop μ-loop
 loop-holds c = (omega arith, highest-start _ _)
 
-mul-higher : tie.Need-mul-higher Inv-loop μ-loop
-mul-higher c = omega arith
-
-mul-higher-2 : tie.Need-mul-higher-2 Inv-loop μ-loop
-mul-higher-2 c = omega arith
-
-shared-slice-read-higher : tie.Need-shared-slice-read-higher Inv-loop μ-loop
-shared-slice-read-higher c = omega arith
-
 higher-requires : tie.Need-higher-requires Inv-loop μ-loop
 higher-requires c κs = tt
-
-add-i : tie.Need-add-i Inv-loop μ-loop
-add-i c = omega arith
-
-loop-less : tie.Need-loop-less Inv-loop μ-loop
-loop-less c = omega arith
 
 loop-again : tie.Need-loop-again Inv-loop μ-loop
 loop-again c = (omega arith, highest-more _ _ _ (c .before .before .before .loop .inv .1) (c .higher .ensures))
@@ -48,11 +33,11 @@ highest-below-spec =
     Inv-loop
     μ-loop
     loop-holds
-    mul-higher
-    mul-higher-2
-    shared-slice-read-higher
+    (λ c. omega arith)
+    (λ c. omega arith)
+    (λ c. omega arith)
     higher-requires
-    add-i
-    loop-less
+    (λ c. omega arith)
+    (λ c. omega arith)
     loop-again
     returns)

@@ -4,11 +4,8 @@ use native.Mathlib.Omega.{arith}
 use Rattle.vio_versions.proofs.holds.Statement.{statement}
 use Rattle.vio_versions.proofs.holds.Tie as tie
 
-holds-in-requires : tie.Need-holds-in-requires
-holds-in-requires c κs = omega arith
-
 returns : tie.Need-returns
 returns c = c .holds-in .ensures
 
 pub holds-spec : {M : Type 1} → statement M
-holds-spec = tie.close (tie.spec holds-in-requires returns)
+holds-spec = tie.close (tie.spec (λ c κs. omega arith) returns)

@@ -17,35 +17,8 @@ abbrev μ-loop : tie.MeasureT-loop
 loop-holds : tie.Need-loop-holds Inv-loop μ-loop
 loop-holds c = (omega arith, minor-start _ _)
 
-mul-chosen : tie.Need-mul-chosen Inv-loop μ-loop
-mul-chosen c = omega arith
-
-mul-chosen-2 : tie.Need-mul-chosen-2 Inv-loop μ-loop
-mul-chosen-2 c = omega arith
-
-shared-slice-read-chosen : tie.Need-shared-slice-read-chosen Inv-loop μ-loop
-shared-slice-read-chosen c = omega arith
-
-mul-chosen-3 : tie.Need-mul-chosen-3 Inv-loop μ-loop
-mul-chosen-3 c = omega arith
-
-add-chosen : tie.Need-add-chosen Inv-loop μ-loop
-add-chosen c = omega arith
-
-mul-chosen-4 : tie.Need-mul-chosen-4 Inv-loop μ-loop
-mul-chosen-4 c = omega arith
-
-shared-slice-read-chosen-2 : tie.Need-shared-slice-read-chosen-2 Inv-loop μ-loop
-shared-slice-read-chosen-2 c = omega arith
-
 chosen-requires : tie.Need-chosen-requires Inv-loop μ-loop
 chosen-requires c κs = tt
-
-add-i : tie.Need-add-i Inv-loop μ-loop
-add-i c = omega arith
-
-loop-less : tie.Need-loop-less Inv-loop μ-loop
-loop-less c = omega arith
 
 loop-again : tie.Need-loop-again Inv-loop μ-loop
 loop-again c = (omega arith, minor-more _ _ _ (c .before .before .before .before .loop .inv .1) (c .chosen .ensures))
@@ -60,15 +33,15 @@ minor-of-spec =
     Inv-loop
     μ-loop
     loop-holds
-    mul-chosen
-    mul-chosen-2
-    shared-slice-read-chosen
-    mul-chosen-3
-    add-chosen
-    mul-chosen-4
-    shared-slice-read-chosen-2
+    (λ c. omega arith)
+    (λ c. omega arith)
+    (λ c. omega arith)
+    (λ c. omega arith)
+    (λ c. omega arith)
+    (λ c. omega arith)
+    (λ c. omega arith)
     chosen-requires
-    add-i
-    loop-less
+    (λ c. omega arith)
+    (λ c. omega arith)
     loop-again
     returns)

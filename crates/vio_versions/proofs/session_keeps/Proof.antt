@@ -8,31 +8,13 @@ use Rattle.vio_versions.proofs.Sessions.{asked-keeps, agreed-keeps, oth
 use Rattle.vio_versions.proofs.session_keeps.Statement.{statement}
 use Rattle.vio_versions.proofs.session_keeps.Tie as tie
 
-enum-known-session : tie.Need-enum-known-session
-enum-known-session c = search needs
-
-names-held-requires : tie.Need-names-held-requires
-names-held-requires c κs = search needs
-
 returns : tie.Need-returns
 unfolding _and_
 returns c = sym (asked-keeps _ _ _ _ _ _ (no _ (c .before .names-held .ensures) (c .if1 .taken)) (c .before .before .before .session .given .1))
 
-minor-of-requires : tie.Need-minor-of-requires
-minor-of-requires c κs = search needs
-
-enum-known-session-2 : tie.Need-enum-known-session-2
-enum-known-session-2 c = search needs
-
-names-held-requires-2 : tie.Need-names-held-requires-2
-names-held-requires-2 c κs = search needs
-
 returns-2 : tie.Need-returns-2
 unfolding _and_
 returns-2 c = sym (agreed-keeps _ _ _ _ _ _ (no _ (c .before .names-held2 .ensures) (c .if2 .taken)) (c .before .before .before .session2 .given .1))
-
-minor-of-requires-2 : tie.Need-minor-of-requires-2
-minor-of-requires-2 c κs = search needs
 
 returns-3 : tie.Need-returns-3
 unfolding _and_
@@ -49,14 +31,14 @@ pub session-keeps-spec : {M : Type 1} → statement M
 session-keeps-spec =
     tie.close
     (tie.spec
-    enum-known-session
-    names-held-requires
+    (λ c. search needs)
+    (λ c κs. search needs)
     returns
-    minor-of-requires
-    enum-known-session-2
-    names-held-requires-2
+    (λ c κs. search needs)
+    (λ c. search needs)
+    (λ c κs. search needs)
     returns-2
-    minor-of-requires-2
+    (λ c κs. search needs)
     returns-3
     returns-4
     returns-5)

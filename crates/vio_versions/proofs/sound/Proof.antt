@@ -14,45 +14,21 @@ use Rattle.vio_versions.proofs.sound.Tie as tie
 returns : tie.Need-returns
 returns c = refute _ (λ t. let r = sound-facts _ t in c .if1 .taken (r .size))
 
-shared-slice-read-if2 : tie.Need-shared-slice-read-if2
-shared-slice-read-if2 c = search needs
-
 returns-2 : tie.Need-returns-2
 returns-2 c = refute _ (λ t. let r = sound-facts _ t in omega arith)
-
-shared-slice-read-if3 : tie.Need-shared-slice-read-if3
-shared-slice-read-if3 c = search needs
 
 returns-3 : tie.Need-returns-3
 returns-3 c = refute _ (λ t. let r = sound-facts _ t in omega arith)
 
-shared-slice-read-if4 : tie.Need-shared-slice-read-if4
-shared-slice-read-if4 c = search needs
-
 returns-4 : tie.Need-returns-4
 returns-4 c = refute _ (λ t. let r = sound-facts _ t in omega arith)
-
-shared-slice-read-if5 : tie.Need-shared-slice-read-if5
-shared-slice-read-if5 c = search needs
 
 returns-5 : tie.Need-returns-5
 returns-5 c = refute _ (λ t. let r = sound-facts _ t in omega arith)
 
-versions-of-requires : tie.Need-versions-of-requires
-versions-of-requires c κs = search needs
-
-accepted-list-requires : tie.Need-accepted-list-requires
-accepted-list-requires c κs = search needs
-
 returns-6 : tie.Need-returns-6
 returns-6 c = let list = ap acceptedList (c .before .before .versions-of .ensures) in
     refute _ (λ t. clash _ (sym list ∙ no _ (c .before .accepted-list .ensures) (c .if6 .taken)) (sound-facts _ t .list))
-
-session-of-requires : tie.Need-session-of-requires
-session-of-requires c κs = search needs
-
-session-keeps-requires : tie.Need-session-keeps-requires
-session-keeps-requires c κs = search needs
 
 returns-7 : tie.Need-returns-7
 returns-7 c = let held = c .before .before .before .before .versions-of .ensures in
@@ -67,17 +43,17 @@ sound-spec =
     tie.close
     (tie.spec
     returns
-    shared-slice-read-if2
+    (λ c. search needs)
     returns-2
-    shared-slice-read-if3
+    (λ c. search needs)
     returns-3
-    shared-slice-read-if4
+    (λ c. search needs)
     returns-4
-    shared-slice-read-if5
+    (λ c. search needs)
     returns-5
-    versions-of-requires
-    accepted-list-requires
+    (λ c κs. search needs)
+    (λ c κs. search needs)
     returns-6
-    session-of-requires
-    session-keeps-requires
+    (λ c κs. search needs)
+    (λ c κs. search needs)
     returns-7)

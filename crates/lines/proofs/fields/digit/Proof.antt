@@ -12,17 +12,11 @@ returns-2 c = from-0 _ (c .before .if1 .left) (c .if2 .taken)
 returns-3 : tie.Need-returns-3
 returns-3 c = below-A _ (c .before .if2 .left) (c .if3 .taken)
 
-add-result : tie.Need-add-result
-add-result c = search needs
-
 returns-4 : tie.Need-returns-4
 returns-4 c = from-A _ (c .before .if3 .left) (c .if4 .taken)
 
 returns-5 : tie.Need-returns-5
 returns-5 c = below-a _ (c .before .if4 .left) (c .if5 .taken)
-
-add-result-2 : tie.Need-add-result-2
-add-result-2 c = search needs
 
 returns-6 : tie.Need-returns-6
 returns-6 c = from-a _ (c .before .if5 .left) (c .if6 .taken)
@@ -37,9 +31,9 @@ digit-spec =
     returns
     returns-2
     returns-3
-    add-result
+    (λ c. search needs)
     returns-4
     returns-5
-    add-result-2
+    (λ c. search needs)
     returns-6
     returns-7)

@@ -24,15 +24,6 @@ loop-holds : tie.Need-loop-holds Inv-loop μ-loop
 unfolding valueOf every
 loop-holds c = (omega arith, refl, refl, omega arith)
 
-shared-slice-read-with-digit : tie.Need-shared-slice-read-with-digit Inv-loop μ-loop
-shared-slice-read-with-digit c = omega arith
-
-with-digit-requires : tie.Need-with-digit-requires Inv-loop μ-loop
-with-digit-requires c κs = search needs
-
-enum-known-more : tie.Need-enum-known-more Inv-loop μ-loop
-enum-known-more c = search needs
-
 enum-told : tie.Need-enum-told Inv-loop μ-loop
 enum-told c = search needs
 
@@ -44,12 +35,6 @@ returns-2 c =
     let field = start .args .field .now in
     let e = ap (λ v. appended h v (getD field (loop .i) 0)) (sym (loop .inv .1)) ∙ sym (c .before .before .with-digit .ensures) ∙ c .enum-told .given .1 in
     stops h field (loop .i) (omega arith) e
-
-add-i : tie.Need-add-i Inv-loop μ-loop
-add-i c = omega arith
-
-loop-less : tie.Need-loop-less Inv-loop μ-loop
-loop-less c = omega arith
 
 loop-again : tie.Need-loop-again Inv-loop μ-loop
 loop-again c =
@@ -75,12 +60,12 @@ digits-spec =
     μ-loop
     returns
     loop-holds
-    shared-slice-read-with-digit
-    with-digit-requires
-    enum-known-more
+    (λ c. omega arith)
+    (λ c κs. search needs)
+    (λ c. search needs)
     enum-told
     returns-2
-    add-i
-    loop-less
+    (λ c. omega arith)
+    (λ c. omega arith)
     loop-again
     returns-3)

@@ -4,11 +4,8 @@ use borrow.Author.Needs.{needs}
 use Rattle.lines.proofs.fields.end_of.Statement.{statement}
 use Rattle.lines.proofs.fields.end_of.Tie as tie
 
-find-requires : tie.Need-find-requires
-find-requires c κs = search needs
-
 returns : tie.Need-returns
 returns c = (c .find .ensures .0, (omega (arith, c .find .ensures .0), counted _ _ (c .find .ensures .1)))
 
 pub end-of-spec : {M : Type 1} → statement M
-end-of-spec = tie.close (tie.spec find-requires returns)
+end-of-spec = tie.close (tie.spec (λ c κs. search needs) returns)

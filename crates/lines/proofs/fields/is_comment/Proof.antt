@@ -11,12 +11,9 @@ returns : tie.Need-returns
 unfolding isComment _and_
 returns c = rw (le-ltb 0 (length (c .before .args .line .now)) (omega (arith, c .if1 .taken)))
 
-shared-slice-read-result : tie.Need-shared-slice-read-result
-shared-slice-read-result c = search needs
-
 returns-2 : tie.Need-returns-2
 unfolding isComment _and_
 returns-2 c = rw (lt-ltb 0 (length (c .before .before .args .line .now)) (omega (arith, c .before .if1 .left)))
 
 pub is-comment-spec : {M : Type 1} → statement M
-is-comment-spec = tie.close (tie.spec returns shared-slice-read-result returns-2)
+is-comment-spec = tie.close (tie.spec returns (λ c. search needs) returns-2)

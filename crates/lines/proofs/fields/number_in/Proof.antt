@@ -11,18 +11,9 @@ use borrow.Author.Needs.{needs}
 use Rattle.lines.proofs.fields.number_in.Statement.{statement}
 use Rattle.lines.proofs.fields.number_in.Tie as tie
 
-digits-requires : tie.Need-digits-requires
-digits-requires c κs = search needs
-
 returns : tie.Need-returns
 unfolding numberIn isPrefixed
 returns c = c .digits .ensures ∙ sym (pick-false _ _ _ (and-false _ _ (lt-leb 2 _ (c .before .if1 .taken))))
-
-shared-slice-read-if2 : tie.Need-shared-slice-read-if2
-shared-slice-read-if2 c = search needs
-
-digits-requires-2 : tie.Need-digits-requires-2
-digits-requires-2 c κs = search needs
 
 returns-2 : tie.Need-returns-2
 unfolding numberIn isPrefixed
@@ -30,29 +21,11 @@ returns-2 c =
     c .digits2 .ensures
     ∙ sym (pick-false _ _ _ (and-false-right _ _ (and-false _ _ (ne-eqb _ 48 (c .before .if2 .taken)))))
 
-shared-slice-read-if3 : tie.Need-shared-slice-read-if3
-shared-slice-read-if3 c = search needs
-
-digits-requires-3 : tie.Need-digits-requires-3
-digits-requires-3 c κs = search needs
-
 returns-3 : tie.Need-returns-3
 unfolding numberIn isPrefixed
 returns-3 c =
     c .digits3 .ensures
     ∙ sym (pick-false _ _ _ (and-false-right _ _ (and-false-right _ _ (ne-eqb _ 120 (c .before .if3 .taken)))))
-
-sub-digits : tie.Need-sub-digits
-sub-digits c = search needs
-
-part-digits-start : tie.Need-part-digits-start
-part-digits-start c = search needs
-
-part-digits-end : tie.Need-part-digits-end
-part-digits-end c = search needs
-
-digits-requires-4 : tie.Need-digits-requires-4
-digits-requires-4 c κs = search needs
 
 returns-4 : tie.Need-returns-4
 unfolding numberIn isPrefixed
@@ -69,16 +42,16 @@ pub number-in-spec : {M : Type 1} → statement M
 number-in-spec =
     tie.close
     (tie.spec
-    digits-requires
+    (λ c κs. search needs)
     returns
-    shared-slice-read-if2
-    digits-requires-2
+    (λ c. search needs)
+    (λ c κs. search needs)
     returns-2
-    shared-slice-read-if3
-    digits-requires-3
+    (λ c. search needs)
+    (λ c κs. search needs)
     returns-3
-    sub-digits
-    part-digits-start
-    part-digits-end
-    digits-requires-4
+    (λ c. search needs)
+    (λ c. search needs)
+    (λ c. search needs)
+    (λ c κs. search needs)
     returns-4)

@@ -5,26 +5,11 @@ use borrow.Author.Needs.{needs}
 use Rattle.lines.proofs.fields.pair.Statement.{statement}
 use Rattle.lines.proofs.fields.pair.Tie as tie
 
-digit-requires : tie.Need-digit-requires
-digit-requires c κs = search needs
-
-digit-requires-2 : tie.Need-digit-requires-2
-digit-requires-2 c κs = search needs
-
 returns : tie.Need-returns
 returns c = no-high _ _ (omega (arith, c .before .before .digit .ensures, c .if1 .taken))
 
 returns-2 : tie.Need-returns-2
 returns-2 c = no-low _ _ (omega (arith, c .before .before .digit2 .ensures, c .if2 .taken))
-
-mul-wide : tie.Need-mul-wide
-mul-wide c = search needs
-
-add-wide : tie.Need-add-wide
-add-wide c = search needs
-
-wide-requires : tie.Need-wide-requires
-wide-requires c κs = search needs
 
 returns-3 : tie.Need-returns-3
 unfolding pairOf
@@ -36,11 +21,11 @@ pub pair-spec : {M : Type 1} → statement M
 pair-spec =
     tie.close
     (tie.spec
-    digit-requires
-    digit-requires-2
+    (λ c κs. search needs)
+    (λ c κs. search needs)
     returns
     returns-2
-    mul-wide
-    add-wide
-    wide-requires
+    (λ c. search needs)
+    (λ c. search needs)
+    (λ c κs. search needs)
     returns-3)

@@ -25,24 +25,12 @@ returns c = sym (and-false _ _ (ne-eqb _ _ (c .if1 .taken)))
 loop-holds : tie.Need-loop-holds Inv-loop μ-loop
 loop-holds c = (omega arith, every-none _)
 
-shared-slice-read-if2 : tie.Need-shared-slice-read-if2 Inv-loop μ-loop
-shared-slice-read-if2 c = omega arith
-
-shared-slice-read-if2-2 : tie.Need-shared-slice-read-if2-2 Inv-loop μ-loop
-shared-slice-read-if2-2 c = omega arith
-
 returns-2 : tie.Need-returns-2 Inv-loop μ-loop
 unfolding areSame
 returns-2 c =
     let a = c .before .before .before .before .before .before .args .a .now in
     let b = c .before .before .before .before .before .before .args .b .now in
     sym (and-false-right _ _ (sym (every-fails (λ k. eqb (getD a k 0) (getD b k 0)) (length a) (c .before .before .before .before .loop .i) (omega arith) (ne-eqb _ _ (c .if2 .taken)))))
-
-add-i : tie.Need-add-i Inv-loop μ-loop
-add-i c = omega arith
-
-loop-less : tie.Need-loop-less Inv-loop μ-loop
-loop-less c = omega arith
 
 loop-again : tie.Need-loop-again Inv-loop μ-loop
 loop-again c = (omega arith, every-more _ _ (c .before .before .before .before .loop .inv .1) (eq-eqb _ _ (c .if2 .left)))
@@ -62,10 +50,10 @@ same-spec =
     μ-loop
     returns
     loop-holds
-    shared-slice-read-if2
-    shared-slice-read-if2-2
+    (λ c. omega arith)
+    (λ c. omega arith)
     returns-2
-    add-i
-    loop-less
+    (λ c. omega arith)
+    (λ c. omega arith)
     loop-again
     returns-3)

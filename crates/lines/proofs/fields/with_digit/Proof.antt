@@ -2,18 +2,12 @@ use borrow.Author.Needs.{needs}
 use Rattle.lines.proofs.fields.with_digit.Statement.{statement}
 use Rattle.lines.proofs.fields.with_digit.Tie as tie
 
-with-hexadecimal-requires : tie.Need-with-hexadecimal-requires
-with-hexadecimal-requires c κs = search needs
-
 returns : tie.Need-returns
 returns c = rw (c .before .if1 .taken) (c .with-hexadecimal .ensures)
-
-with-decimal-requires : tie.Need-with-decimal-requires
-with-decimal-requires c κs = search needs
 
 returns-2 : tie.Need-returns-2
 returns-2 c = rw (c .before .if1 .left) (c .with-decimal .ensures)
 
 pub with-digit-spec : {M : Type 1} → statement M
 with-digit-spec =
-    tie.close (tie.spec with-hexadecimal-requires returns with-decimal-requires returns-2)
+    tie.close (tie.spec (λ c κs. search needs) returns (λ c κs. search needs) returns-2)

@@ -6,12 +6,6 @@ use borrow.Author.Needs.{needs}
 use Rattle.lines.proofs.fields.with_hexadecimal.Statement.{statement}
 use Rattle.lines.proofs.fields.with_hexadecimal.Tie as tie
 
-digit-requires : tie.Need-digit-requires
-digit-requires c κs = search needs
-
-wide-requires : tie.Need-wide-requires
-wide-requires c κs = search needs
-
 returns : tie.Need-returns
 unfolding baseOf
 returns c = no-digit true _ _ (omega (arith, c .before .wide .ensures, c .before .before .digit .ensures, c .if1 .taken))
@@ -19,12 +13,6 @@ returns c = no-digit true _ _ (omega (arith, c .before .wide .ensures, c .before
 returns-2 : tie.Need-returns-2
 unfolding baseOf
 returns-2 c = too-large true _ _ (omega (arith, c .if2 .taken))
-
-mul-t6 : tie.Need-mul-t6
-mul-t6 c = search needs
-
-add-t7 : tie.Need-add-t7
-add-t7 c = search needs
 
 returns-3 : tie.Need-returns-3
 unfolding baseOf
@@ -34,4 +22,4 @@ returns-3 c =
 
 pub with-hexadecimal-spec : {M : Type 1} → statement M
 with-hexadecimal-spec =
-    tie.close (tie.spec digit-requires wide-requires returns returns-2 mul-t6 add-t7 returns-3)
+    tie.close (tie.spec (λ c κs. search needs) (λ c κs. search needs) returns returns-2 (λ c. search needs) (λ c. search needs) returns-3)
