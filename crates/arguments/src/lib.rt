@@ -1,4 +1,5 @@
-// A program's arguments: an option of its own, and `--status-fd N`, the descriptor on which it reports how it ended. Its script gives the latter.
+// A program's arguments: an option of its own, and `--status-fd N`, the descriptor on which it reports how it ended.
+// Its script gives the latter.
 use libc::STDERR_FILENO;
 use lines::fields;
 use lines::fields::Number;

@@ -1,4 +1,5 @@
-// How a program ended. A program of Rattle has no exit status: it reports one of these bytes on a descriptor that an option names, and its script ends with that status.
+// How a program ended. A program of Rattle has no exit status: it reports one of these bytes on a descriptor that an
+// option names, and its script ends with that status.
 use libc::STDERR_FILENO;
 
 // The input was read to its end, and all of it is good.

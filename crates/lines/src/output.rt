@@ -1,5 +1,6 @@
-// Text gathered in a lent array, `used` bytes of it so far, and written out when it is full. A `used` above TEXT_BYTES says that a write has failed: nothing is gathered or
-// written after that, and the program that asks `has_failed` reports it once and ends.
+// Text gathered in a lent array, `used` bytes of it so far, and written out when it is full. A `used` above
+// TEXT_BYTES says that a write has failed: nothing is gathered or written after that, and the program that asks
+// `has_failed` reports it once and ends.
 use crate::parts::bytes_within;
 use libc::STDOUT_FILENO;
 

@@ -3,7 +3,8 @@ use libc::EINTR;
 use libc::STDIN_FILENO;
 ghost use Rattle.io.specs.Counts.{Counts};
 
-// The bytes read, at the start of the buffer. They are fewer than it holds at the end of the input, and where a read has failed.
+// The bytes read, at the start of the buffer. They are fewer than it holds at the end of the input, and where a read
+// has failed.
 pub struct Filled {
     pub count: usize,
     pub failed: bool,
@@ -14,7 +15,8 @@ pub fn is_interrupted(got: isize) -> bool {
     got < 0 && os::errno() == EINTR
 }
 
-// Reads until the buffer is full, the input ends or a read fails. The count of tries only lets the loop be proved to end.
+// Reads until the buffer is full, the input ends or a read fails. The count of tries only lets the loop be proved to
+// end.
 pub fn fill(input: &mut [u8]) -> Filled
     ensures { λ r. ⌜ Counts (r .count) (now (input .exit)) ⌝ }
 {
