@@ -13,11 +13,8 @@ returns c = refute _ (λ t. let r = accepted-rules _ t in omega arith)
 returns-2 : tie.Need-returns-2
 returns-2 c = refute _ (λ t. let r = accepted-rules _ t in omega arith)
 
-keep-rules-requires : tie.Need-keep-rules-requires
-keep-rules-requires c κs = (omega arith, omega arith)
-
 returns-3 : tie.Need-returns-3
 returns-3 c = c .keep-rules .ensures ∙ sym (accepted-last _ (omega arith) ∙ blocks-last _ _ _ (omega arith))
 
 pub accepted-blocks-spec : {M : Type 1} → statement M
-accepted-blocks-spec = tie.close (tie.spec returns returns-2 keep-rules-requires returns-3)
+accepted-blocks-spec = tie.close (tie.spec returns returns-2 (λ c κs. omega arith) returns-3)

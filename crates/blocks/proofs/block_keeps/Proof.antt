@@ -26,23 +26,10 @@ returns-5 c = refute _ (λ t. let r = block-rules _ _ t .0 in omega arith)
 returns-6 : tie.Need-returns-6
 returns-6 c = refute _ (λ t. let r = block-rules _ _ t .0 in omega arith)
 
-permanent-keeps-requires : tie.Need-permanent-keeps-requires
-permanent-keeps-requires c κs = tt
-
 returns-7 : tie.Need-returns-7
 returns-7 c = c .permanent-keeps .ensures ∙ sym (lies-last _ _ (omega arith))
 
 pub block-keeps-spec : {M : Type 1} → statement M
-block-keeps-spec =
-    tie.close
-    (tie.spec
-    returns
-    returns-2
-    returns-3
-    returns-4
-    (λ c. omega arith)
-    (λ c. omega arith)
-    returns-5
-    returns-6
-    permanent-keeps-requires
-    returns-7)
+block-keeps-spec = tie.close (tie.spec
+    returns returns-2 returns-3 returns-4 (λ c. omega arith) (λ c. omega arith) returns-5 returns-6
+    (λ c κs. omega arith) returns-7)

@@ -7,11 +7,8 @@ use Rattle.model.proofs.Choice.{pick-true, pick-false}
 use Rattle.blocks.proofs.found_at.Statement.{statement}
 use Rattle.blocks.proofs.found_at.Tie as tie
 
-returns : tie.Need-returns
-returns c = sym (pick-true _ _ _ (eq-eqb _ _ (c .if1 .taken)))
-
-returns-2 : tie.Need-returns-2
-returns-2 c = sym (pick-false _ _ _ (ne-eqb _ _ (c .if1 .left)))
-
 pub found-at-spec : {M : Type 1} → statement M
-found-at-spec = tie.close (tie.spec (λ c. search needs) returns returns-2)
+found-at-spec = tie.close (tie.spec
+    (λ c. search needs)
+    (λ c. sym (pick-true _ _ _ (eq-eqb _ _ (c .if1 .taken))))
+    (λ c. sym (pick-false _ _ _ (ne-eqb _ _ (c .if1 .left)))))

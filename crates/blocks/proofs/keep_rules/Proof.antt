@@ -19,13 +19,6 @@ Inv-loop words at n floor₀ i₀ floor i = (i ≤ n) × (floor ≡ endBefore wo
 abbrev μ-loop : tie.MeasureT-loop
 μ-loop words at n floor₀ i₀ floor i = n - i
 
-loop-holds : tie.Need-loop-holds Inv-loop μ-loop
-unfolding endBefore
-loop-holds c = (omega arith, refl, every-none _)
-
-block-keeps-requires : tie.Need-block-keeps-requires Inv-loop μ-loop
-block-keeps-requires c κs = tt
-
 returns : tie.Need-returns Inv-loop μ-loop
 unfolding blockIn
 returns c =
@@ -52,33 +45,10 @@ returns-2 : tie.Need-returns-2 Inv-loop μ-loop
 returns-2 c = every-all _ _ _ (c .before .loop .inv .0) (c .loop-test .left) (c .before .loop .inv .2)
 
 pub keep-rules-spec : {M : Type 1} → statement M
-keep-rules-spec =
-    tie.close
-    (tie.spec
-    Inv-loop
-    μ-loop
-    loop-holds
-    (λ c. omega arith)
-    (λ c. omega arith)
-    (λ c. omega arith)
-    (λ c. omega arith)
-    (λ c. omega arith)
-    (λ c. omega arith)
-    (λ c. omega arith)
-    (λ c. omega arith)
-    (λ c. omega arith)
-    (λ c. omega arith)
-    (λ c. omega arith)
-    (λ c. omega arith)
-    (λ c. omega arith)
-    (λ c. omega arith)
-    (λ c. omega arith)
-    (λ c. omega arith)
-    block-keeps-requires
-    returns
-    mul-floor
-    add-floor
-    (λ c. omega arith)
-    (λ c. omega arith)
-    loop-again
-    returns-2)
+unfolding endBefore
+keep-rules-spec = tie.close (tie.spec
+    Inv-loop μ-loop (λ c. (omega arith, refl, every-none _)) (λ c. omega arith) (λ c. omega arith) (λ c. omega arith)
+    (λ c. omega arith) (λ c. omega arith) (λ c. omega arith) (λ c. omega arith) (λ c. omega arith) (λ c. omega arith)
+    (λ c. omega arith) (λ c. omega arith) (λ c. omega arith) (λ c. omega arith) (λ c. omega arith) (λ c. omega arith)
+    (λ c. omega arith) (λ c κs. omega arith) returns mul-floor add-floor (λ c. omega arith) (λ c. omega arith)
+    loop-again returns-2)

@@ -23,15 +23,6 @@ has-room c =
     let l = c .before .loop in
     room _ _ _ (l .looked) (l .count) (l .low) (l .left) (omega arith) (l .inv .3) (c .before .before .before .pre .few) (omega arith)
 
-loop-holds : tie.Need-loop-holds Inv-loop μ-loop
-loop-holds c = (omega arith, refl, omega arith, going-first _ _ _)
-
-mul-looked : tie.Need-mul-looked Inv-loop μ-loop
-mul-looked c = omega (arith, has-room c)
-
-array-write-looked : tie.Need-array-write-looked Inv-loop μ-loop
-array-write-looked c = has-room c
-
 found-at-requires : tie.Need-found-at-requires Inv-loop μ-loop
 unfolding blockIn
 found-at-requires c κs =
@@ -64,30 +55,10 @@ returns-2 c =
     tells-nowhere _ _ _ _ _ _ _ (omega arith) (omega arith) (l .inv .3)
 
 pub look-for-spec : {M : Type 1} → statement M
-look-for-spec =
-    tie.close
-    (tie.spec
-    Inv-loop
-    μ-loop
-    (λ c. omega arith)
-    loop-holds
-    (λ c. omega arith)
-    (λ c. omega arith)
-    mul-looked
-    array-write-looked
-    (λ c. omega arith)
-    (λ c. omega arith)
-    (λ c. omega arith)
-    (λ c. omega arith)
-    (λ c. omega arith)
-    (λ c. omega arith)
-    (λ c. omega arith)
-    (λ c. omega arith)
-    found-at-requires
-    returns
-    (λ c. omega arith)
-    (λ c. omega arith)
-    loop-again
-    (λ c. omega arith)
-    loop-again-2
-    returns-2)
+look-for-spec = tie.close (tie.spec
+    Inv-loop μ-loop (λ c. omega arith)
+    (λ c. (omega arith, refl, omega arith, going-first _ _ _))
+    (λ c. omega arith) (λ c. omega arith) (λ c. omega (arith, has-room c)) (λ c. has-room c) (λ c. omega arith)
+    (λ c. omega arith) (λ c. omega arith) (λ c. omega arith) (λ c. omega arith) (λ c. omega arith) (λ c. omega arith)
+    (λ c. omega arith) found-at-requires returns (λ c. omega arith) (λ c. omega arith) loop-again (λ c. omega arith)
+    loop-again-2 returns-2)

@@ -6,12 +6,9 @@ use Rattle.model.proofs.Search.{in-order-found}
 use Rattle.blocks.proofs.named_block.Statement.{statement}
 use Rattle.blocks.proofs.named_block.Tie as tie
 
-look-for-requires : tie.Need-look-for-requires
-look-for-requires c κs = c .pre
-
 returns : tie.Need-returns
 unfolding namedBlock
 returns c = c .look-for .ensures .answer ∙ in-order-found _ _ _ _ _ (c .before .pre)
 
 pub named-block-spec : {M : Type 1} → statement M
-named-block-spec = tie.close (tie.spec look-for-requires returns)
+named-block-spec = tie.close (tie.spec (λ c κs. c .pre) returns)

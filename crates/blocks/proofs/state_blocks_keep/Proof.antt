@@ -10,12 +10,8 @@ use Rattle.blocks.proofs.state_blocks_keep.Tie as tie
 returns : tie.Need-returns
 returns c = refute _ (λ t. let r = blocks-rules _ _ _ t in omega arith)
 
-keep-rules-requires : tie.Need-keep-rules-requires
-keep-rules-requires c κs = (omega arith, omega arith)
-
 returns-2 : tie.Need-returns-2
 returns-2 c = c .keep-rules .ensures ∙ sym (blocks-last _ _ _ (omega arith))
 
 pub state-blocks-keep-spec : {M : Type 1} → statement M
-state-blocks-keep-spec =
-    tie.close (tie.spec (λ c. omega arith) returns keep-rules-requires returns-2)
+state-blocks-keep-spec = tie.close (tie.spec (λ c. omega arith) returns (λ c κs. omega arith) returns-2)

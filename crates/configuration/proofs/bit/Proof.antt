@@ -3,8 +3,5 @@ use borrow.Author.Needs.{needs}
 use Rattle.configuration.proofs.bit.Statement.{statement}
 use Rattle.configuration.proofs.bit.Tie as tie
 
-returns : tie.Need-returns
-returns c = bit-is _ (c .pre)
-
 pub bit-spec : {M : Type 1} → statement M
-bit-spec = tie.close (tie.spec (λ c. search needs) returns)
+bit-spec = tie.close (tie.spec (λ c. search needs) (λ c. bit-is _ (c .pre)))

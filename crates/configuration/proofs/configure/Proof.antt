@@ -16,14 +16,6 @@ returns-2 : tie.Need-returns-2
 returns-2 c = let k = c .before .before .before .before in let h = headed k in let p = entered h .pre in configure-some _ _ _ _ _ _ _ (p .1) (p .3) (h .put-results-header .ensures) (k .configure-all .ensures) (c .before .if1 .left) (c .configured .ensures)
 
 pub configure-spec : {M : Type 1} → statement M
-configure-spec =
-    tie.close
-    (tie.spec
-    (λ c κs. search needs)
-    (λ c κs. search needs)
-    (λ c κs. search needs)
-    (λ c. search needs)
-    returns
-    (λ c κs. search needs)
-    (λ c. search needs)
-    returns-2)
+configure-spec = tie.close (tie.spec
+    (λ c κs. search needs) (λ c κs. search needs) (λ c κs. search needs) (λ c. search needs) returns
+    (λ c κs. search needs) (λ c. search needs) returns-2)

@@ -12,9 +12,6 @@ Inv-loop state₀ b n out₀ mask₀ failed₀ i₀ state out mask failed i = (i
 abbrev μ-loop : tie.MeasureT-loop
 μ-loop state₀ b n out₀ mask₀ failed₀ i₀ state out mask failed i = n - i
 
-word-count-requires : tie.Need-word-count-requires Inv-loop μ-loop
-word-count-requires c κs = tt
-
 loop-holds : tie.Need-loop-holds Inv-loop μ-loop
 loop-holds c = (omega arith, refl, passed-none _ _ _ (c .word-count .ensures .1) (c .before .before .before .before .pre .2))
 
@@ -40,27 +37,11 @@ loop-again c =
     let l = k .before .before .before .before .before in
     (omega arith, omega arith, passed-more _ _ _ _ (l .loop .inv .2) (k .before .before .before .address .ensures) (k .before .before .size .ensures) (k .configure-one .ensures) (w .put-result .ensures))
 
-same-length : tie.Need-same-length Inv-loop μ-loop
-same-length c = c .before .loop .inv .1
-
 returns : tie.Need-returns Inv-loop μ-loop
 returns c = let inv = c .before .loop .inv in passes _ _ _ _ _ (inv .0) (omega arith) (inv .2)
 
 pub configure-all-spec : {M : Type 1} → statement M
-configure-all-spec =
-    tie.close
-    (tie.spec
-    Inv-loop
-    μ-loop
-    word-count-requires
-    loop-holds
-    (λ c κs. omega arith)
-    (λ c κs. omega arith)
-    configure-one-requires
-    put-result-requires
-    add-mask
-    (λ c. omega arith)
-    (λ c. omega arith)
-    loop-again
-    same-length
+configure-all-spec = tie.close (tie.spec
+    Inv-loop μ-loop (λ c κs. omega arith) loop-holds (λ c κs. omega arith) (λ c κs. omega arith) configure-one-requires
+    put-result-requires add-mask (λ c. omega arith) (λ c. omega arith) loop-again (λ c. c .before .loop .inv .1)
     returns)

@@ -12,5 +12,4 @@ returns-2 c = let t = c .before .before .before in let p = t .before .before .be
 
 pub configure-at-spec : {M : Type 1} → statement M
 configure-at-spec =
-    tie.close
-    (tie.spec (λ c κs. search needs) returns (λ c κs. search needs) (λ c κs. search needs) returns-2)
+    tie.close (tie.spec (λ c κs. search needs) returns (λ c κs. search needs) (λ c κs. search needs) returns-2)

@@ -13,11 +13,7 @@ returns c = refute _ (λ t. let r = accepted-rules _ t in omega arith)
 returns-2 : tie.Need-returns-2
 returns-2 c = refute _ (λ t. let r = accepted-rules _ t in omega arith)
 
-keep-rules-requires : tie.Need-keep-rules-requires
-keep-rules-requires c κs = (omega arith, omega arith)
-
-returns-3 : tie.Need-returns-3
-returns-3 c = c .keep-rules .ensures ∙ sym (accepted-last _ (omega arith))
-
 pub accepted-devices-spec : {M : Type 1} → statement M
-accepted-devices-spec = tie.close (tie.spec returns returns-2 keep-rules-requires returns-3)
+accepted-devices-spec = tie.close (tie.spec
+    returns returns-2 (λ c κs. omega arith)
+    (λ c. c .keep-rules .ensures ∙ sym (accepted-last _ (omega arith))))

@@ -9,8 +9,6 @@ use Rattle.device_list.proofs.all_apart.Tie as tie
 returns : tie.Need-returns
 returns c = sym (rising-apart _ _ _ (sym (c .before .ids-rise .ensures) ∙ c .if1 .taken))
 
-returns-2 : tie.Need-returns-2
-returns-2 c = c .each-apart .ensures
-
 pub all-apart-spec : {M : Type 1} → statement M
-all-apart-spec = tie.close (tie.spec (λ c κs. search needs) returns (λ c κs. search needs) returns-2)
+all-apart-spec = tie.close (tie.spec
+    (λ c κs. search needs) returns (λ c κs. search needs) (λ c. c .each-apart .ensures))

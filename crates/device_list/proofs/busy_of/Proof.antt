@@ -6,11 +6,7 @@ use native.Mathlib.Omega.{arith}
 use Rattle.device_list.proofs.busy_of.Statement.{statement}
 use Rattle.device_list.proofs.busy_of.Tie as tie
 
-returns : tie.Need-returns
-unfolding deviceIn
-returns c = refl
-
 pub busy-of-spec : {M : Type 1} → statement M
-busy-of-spec =
-    tie.close
-    (tie.spec (λ c. omega arith) (λ c. omega arith) (λ c. omega arith) (λ c. omega arith) (λ c. omega arith) returns)
+unfolding deviceIn
+busy-of-spec = tie.close (tie.spec
+    (λ c. omega arith) (λ c. omega arith) (λ c. omega arith) (λ c. omega arith) (λ c. omega arith) (λ c. refl))

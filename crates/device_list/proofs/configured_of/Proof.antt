@@ -6,11 +6,7 @@ use native.Mathlib.Omega.{arith}
 use Rattle.device_list.proofs.configured_of.Statement.{statement}
 use Rattle.device_list.proofs.configured_of.Tie as tie
 
-returns : tie.Need-returns
-unfolding deviceIn
-returns c = refl
-
 pub configured-of-spec : {M : Type 1} → statement M
-configured-of-spec =
-    tie.close
-    (tie.spec (λ c. omega arith) (λ c. omega arith) (λ c. omega arith) (λ c. omega arith) (λ c. omega arith) returns)
+unfolding deviceIn
+configured-of-spec = tie.close (tie.spec
+    (λ c. omega arith) (λ c. omega arith) (λ c. omega arith) (λ c. omega arith) (λ c. omega arith) (λ c. refl))

@@ -9,8 +9,6 @@ use Rattle.device_list.proofs.device_apart.Tie as tie
 returns : tie.Need-returns
 returns c = sym (ids-apart _ _ _ (sym (c .before .id-apart .ensures) ∙ c .if1 .taken))
 
-returns-2 : tie.Need-returns-2
-returns-2 c = c .name-apart .ensures
-
 pub device-apart-spec : {M : Type 1} → statement M
-device-apart-spec = tie.close (tie.spec (λ c κs. search needs) returns (λ c κs. search needs) returns-2)
+device-apart-spec = tie.close (tie.spec
+    (λ c κs. search needs) returns (λ c κs. search needs) (λ c. c .name-apart .ensures))

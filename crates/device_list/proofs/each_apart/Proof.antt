@@ -17,9 +17,6 @@ Inv-loop words at n i₀ i = (i ≤ n) × (every i (deviceApart words at) ≡ tr
 abbrev μ-loop : tie.MeasureT-loop
 μ-loop words at n i₀ i = n - i
 
-loop-holds : tie.Need-loop-holds Inv-loop μ-loop
-loop-holds c = (omega arith, every-none _)
-
 device-apart-requires : tie.Need-device-apart-requires Inv-loop μ-loop
 device-apart-requires c κs =
     let each = c .before .before .before .pre .1 in
@@ -39,15 +36,6 @@ returns-2 : tie.Need-returns-2 Inv-loop μ-loop
 returns-2 c = let l = c .before .loop in every-all _ _ _ (l .inv .0) (c .loop-test .left) (l .inv .1)
 
 pub each-apart-spec : {M : Type 1} → statement M
-each-apart-spec =
-    tie.close
-    (tie.spec
-    Inv-loop
-    μ-loop
-    loop-holds
-    device-apart-requires
-    returns
-    (λ c. omega arith)
-    (λ c. omega arith)
-    loop-again
-    returns-2)
+each-apart-spec = tie.close (tie.spec
+    Inv-loop μ-loop (λ c. (omega arith, every-none _)) device-apart-requires returns (λ c. omega arith)
+    (λ c. omega arith) loop-again returns-2)

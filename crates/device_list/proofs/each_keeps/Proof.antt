@@ -16,9 +16,6 @@ Inv-loop words at n i₀ i = (i ≤ n) × (every i (deviceKeeps words at) ≡ tr
 abbrev μ-loop : tie.MeasureT-loop
 μ-loop words at n i₀ i = n - i
 
-loop-holds : tie.Need-loop-holds Inv-loop μ-loop
-loop-holds c = (omega arith, every-none _)
-
 returns : tie.Need-returns Inv-loop μ-loop
 returns c =
     let t = c .before in
@@ -33,15 +30,6 @@ returns-2 : tie.Need-returns-2 Inv-loop μ-loop
 returns-2 c = let l = c .before .loop in every-all _ _ _ (l .inv .0) (c .loop-test .left) (l .inv .1)
 
 pub each-keeps-spec : {M : Type 1} → statement M
-each-keeps-spec =
-    tie.close
-    (tie.spec
-    Inv-loop
-    μ-loop
-    loop-holds
-    (λ c κs. omega arith)
-    returns
-    (λ c. omega arith)
-    (λ c. omega arith)
-    loop-again
-    returns-2)
+each-keeps-spec = tie.close (tie.spec
+    Inv-loop μ-loop (λ c. (omega arith, every-none _)) (λ c κs. omega arith) returns (λ c. omega arith)
+    (λ c. omega arith) loop-again returns-2)

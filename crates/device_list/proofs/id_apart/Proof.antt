@@ -19,10 +19,6 @@ Inv-loop words at i id apart₀ j₀ apart j = (j ≤ i) × (apart ≡ every j (
 abbrev μ-loop : tie.MeasureT-loop
 μ-loop words at i id apart₀ j₀ apart j = i - j
 
-loop-holds : tie.Need-loop-holds Inv-loop μ-loop
-unfolding every
-loop-holds c = (omega arith, refl)
-
 loop-again : tie.Need-loop-again Inv-loop μ-loop
 unfolding every
 loop-again c =
@@ -37,21 +33,8 @@ returns c =
     c .before .loop .inv .1 ∙ rw past
 
 pub id-apart-spec : {M : Type 1} → statement M
-id-apart-spec =
-    tie.close
-    (tie.spec
-    Inv-loop
-    μ-loop
-    (λ c. omega arith)
-    (λ c. omega arith)
-    (λ c. omega arith)
-    (λ c. omega arith)
-    loop-holds
-    (λ c. omega arith)
-    (λ c. omega arith)
-    (λ c. omega arith)
-    (λ c. omega arith)
-    (λ c. omega arith)
-    (λ c. omega arith)
-    loop-again
-    returns)
+unfolding every
+id-apart-spec = tie.close (tie.spec
+    Inv-loop μ-loop (λ c. omega arith) (λ c. omega arith) (λ c. omega arith) (λ c. omega arith)
+    (λ c. (omega arith, refl)) (λ c. omega arith) (λ c. omega arith) (λ c. omega arith) (λ c. omega arith)
+    (λ c. omega arith) (λ c. omega arith) loop-again returns)

@@ -34,17 +34,6 @@ returns-2 c =
     c .has-name .ensures ∙ device-named _ (start e .args .at) (start e .args .i) _ _ (e .if1 .left)
 
 pub is-device-spec : {M : Type 1} → statement M
-is-device-spec =
-    tie.close
-    (tie.spec
-    (λ c. omega arith)
-    (λ c. omega arith)
-    (λ c. omega arith)
-    (λ c. omega arith)
-    returns
-    (λ c. omega arith)
-    (λ c. omega arith)
-    (λ c. omega arith)
-    (λ c. omega arith)
-    has-name-requires
-    returns-2)
+is-device-spec = tie.close (tie.spec
+    (λ c. omega arith) (λ c. omega arith) (λ c. omega arith) (λ c. omega arith) returns (λ c. omega arith)
+    (λ c. omega arith) (λ c. omega arith) (λ c. omega arith) has-name-requires returns-2)

@@ -18,9 +18,6 @@ Inv-loop words at i j₀ j = (j ≤ i) × (every j (λ k. not (isDevice (deviceI
 abbrev μ-loop : tie.MeasureT-loop
 μ-loop words at i j₀ j = i - j
 
-loop-holds : tie.Need-loop-holds Inv-loop μ-loop
-loop-holds c = (omega arith, every-none _)
-
 same-device-requires : tie.Need-same-device-requires Inv-loop μ-loop
 same-device-requires c κs =
     let each = c .before .before .before .pre .1 in
@@ -42,15 +39,6 @@ unfolding deviceApart
 returns-2 c = let l = c .before .loop in every-all _ _ _ (l .inv .0) (c .loop-test .left) (l .inv .1)
 
 pub name-apart-spec : {M : Type 1} → statement M
-name-apart-spec =
-    tie.close
-    (tie.spec
-    Inv-loop
-    μ-loop
-    loop-holds
-    same-device-requires
-    returns
-    (λ c. omega arith)
-    (λ c. omega arith)
-    loop-again
-    returns-2)
+name-apart-spec = tie.close (tie.spec
+    Inv-loop μ-loop (λ c. (omega arith, every-none _)) same-device-requires returns (λ c. omega arith)
+    (λ c. omega arith) loop-again returns-2)

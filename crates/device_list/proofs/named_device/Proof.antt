@@ -16,9 +16,6 @@ Inv-loop state id name count i₀ i = (i ≤ count) × NoneBelow (λ k. isDevice
 abbrev μ-loop : tie.MeasureT-loop
 μ-loop state id name count i₀ i = count - i
 
-loop-holds : tie.Need-loop-holds Inv-loop μ-loop
-loop-holds c = (omega arith, none-first _)
-
 -- the state's devices keep their rules
 abbrev start : tie.In-loop Inv-loop μ-loop → tie.Start Inv-loop μ-loop
 start c = c .before .before .before .before
@@ -50,16 +47,6 @@ unfolding namedDevice
 returns-2 c = found-nowhere _ _ _ (c .before .loop .inv .1) (c .loop-test .left)
 
 pub named-device-spec : {M : Type 1} → statement M
-named-device-spec =
-    tie.close
-    (tie.spec
-    Inv-loop
-    μ-loop
-    (λ c. omega arith)
-    loop-holds
-    is-device-requires
-    returns
-    add-i
-    (λ c. omega arith)
-    loop-again
-    returns-2)
+named-device-spec = tie.close (tie.spec
+    Inv-loop μ-loop (λ c. omega arith) (λ c. (omega arith, none-first _)) is-device-requires returns add-i
+    (λ c. omega arith) loop-again returns-2)

@@ -6,10 +6,7 @@ use native.Mathlib.Omega.{arith}
 use Rattle.device_list.proofs.set_configured.Statement.{statement}
 use Rattle.device_list.proofs.set_configured.Tie as tie
 
-returns : tie.Need-returns
-unfolding withDevice
-returns c = refl
-
 pub set-configured-spec : {M : Type 1} → statement M
-set-configured-spec =
-    tie.close (tie.spec (λ c. omega arith) (λ c. omega arith) (λ c. omega arith) (λ c. omega arith) (λ c. omega arith) returns)
+unfolding withDevice
+set-configured-spec = tie.close (tie.spec
+    (λ c. omega arith) (λ c. omega arith) (λ c. omega arith) (λ c. omega arith) (λ c. omega arith) (λ c. refl))

@@ -11,5 +11,4 @@ returns : tie.Need-returns
 returns c = refute _ (λ t. let r = devices-few _ _ _ t in omega arith)
 
 pub state-devices-keep-spec : {M : Type 1} → statement M
-state-devices-keep-spec =
-    tie.close (tie.spec (λ c. omega arith) returns (λ c κs. search needs) (λ c. search needs))
+state-devices-keep-spec = tie.close (tie.spec (λ c. omega arith) returns (λ c κs. search needs) (λ c. search needs))

@@ -30,12 +30,6 @@ named c = yes _ (c .before .has-name .ensures) (c .if1 .left)
 abbrev formed-so-far : tie.After-operation → tie.Else1
 formed-so-far c = c .before .before
 
-get32-requires : tie.Need-get32-requires
-get32-requires c κs = omega (arith, name-long _ (named c))
-
-cast-operation : tie.Need-cast-operation
-cast-operation c = omega (arith, c .get32 .ensures .1)
-
 returns-2 : tie.Need-returns-2
 returns-2 c =
     let r = c .before .before in
@@ -64,24 +58,8 @@ returns-3 c =
     (r .hear .ensures)
 
 pub answer-spec : {M : Type 1} → statement M
-answer-spec =
-    tie.close
-    (tie.spec
-    (λ c κs. search needs)
-    (λ c κs. search needs)
-    (λ c κs. search needs)
-    (λ c. search needs)
-    returns
-    get32-requires
-    cast-operation
-    (λ c κs. search needs)
-    (λ c κs. search needs)
-    (λ c. search needs)
-    returns-2
-    get64-requires
-    sub-hear
-    part-hear-start
-    (λ c. search needs)
-    (λ c κs. search needs)
-    (λ c. search needs)
-    returns-3)
+answer-spec = tie.close (tie.spec
+    (λ c κs. search needs) (λ c κs. search needs) (λ c κs. search needs) (λ c. search needs) returns
+    (λ c κs. omega (arith, name-long _ (named c))) (λ c. omega (arith, c .get32 .ensures .1)) (λ c κs. search needs)
+    (λ c κs. search needs) (λ c. search needs) returns-2 get64-requires sub-hear part-hear-start (λ c. search needs)
+    (λ c κs. search needs) (λ c. search needs) returns-3)

@@ -16,16 +16,6 @@ returns c =
     ask-handles _ _ _ _ _ _ _ (c₂ .before .before .configured-of .ensures) (c₂ .busy-of .ensures) (c₃ .result-of .ensures) (c₄ .configured-after .ensures) (c₅ .status-of .ensures) (c₆ .put-response .ensures) (c₇ .set-configured .ensures) (c .device .ensures)
 
 pub ask-spec : {M : Type 1} → statement M
-ask-spec =
-    tie.close
-    (tie.spec
-    (λ c κs. search needs)
-    (λ c κs. search needs)
-    (λ c κs. search needs)
-    (λ c κs. search needs)
-    (λ c κs. search needs)
-    (λ c κs. search needs)
-    (λ c κs. search needs)
-    (λ c κs. search needs)
-    (λ c. search needs)
-    returns)
+ask-spec = tie.close (tie.spec
+    (λ c κs. search needs) (λ c κs. search needs) (λ c κs. search needs) (λ c κs. search needs) (λ c κs. search needs)
+    (λ c κs. search needs) (λ c κs. search needs) (λ c κs. search needs) (λ c. search needs) returns)

@@ -31,13 +31,5 @@ returns-3 c =
     c .none-is-zero .ensures ∙ sym (name-last _ (k .before .if1 .left) (sym (is-byte k) ∙ c .before .if2 .left))
 
 pub has-name-spec : {M : Type 1} → statement M
-has-name-spec =
-    tie.close
-    (tie.spec
-    returns
-    (λ c. omega arith)
-    (λ c. omega arith)
-    returns-2
-    (λ c. omega arith)
-    (λ c κs. search needs)
-    returns-3)
+has-name-spec = tie.close (tie.spec
+    returns (λ c. omega arith) (λ c. omega arith) returns-2 (λ c. omega arith) (λ c κs. search needs) returns-3)

@@ -9,18 +9,12 @@ use borrow.Author.Needs.{needs}
 use Rattle.devices.proofs.hear.Statement.{statement}
 use Rattle.devices.proofs.hear.Tie as tie
 
-named-device-requires : tie.Need-named-device-requires
-named-device-requires c κs = sound-facts _ (c .before .before .before .pre .0) .devices
-
 ask-requires : tie.Need-ask-requires
 ask-requires c κs =
     let f = c .before .before .before in
     let d = f .before .before in
     let p = d .before .before .before .before .pre in
     (named-place _ _ _ _ (sound-facts _ (p .0) .devices) (sym (d .named-device .ensures) ∙ f .found .given .1), omega (arith, p .1))
-
-enum-told : tie.Need-enum-told
-enum-told c = search needs
 
 returns : tie.Need-returns
 unfolding deviceFor
@@ -38,16 +32,7 @@ returns-2 c =
     rw (← t .before .before .named-device .ensures, t .enum-told .given .1, ← u .unknown-result .ensures) (a .refuse .ensures _)
 
 pub hear-spec : {M : Type 1} → statement M
-hear-spec =
-    tie.close
-    (tie.spec
-    named-device-requires
-    (λ c. search needs)
-    ask-requires
-    enum-told
-    (λ c κs. search needs)
-    (λ c κs. search needs)
-    (λ c. search needs)
-    returns
-    (λ c. search needs)
-    returns-2)
+hear-spec = tie.close (tie.spec
+    (λ c κs. sound-facts _ (c .before .before .before .pre .0) .devices)
+    (λ c. search needs) ask-requires (λ c. search needs) (λ c κs. search needs) (λ c κs. search needs)
+    (λ c. search needs) returns (λ c. search needs) returns-2)

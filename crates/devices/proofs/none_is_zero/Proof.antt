@@ -20,10 +20,6 @@ Inv-loop b from n none₀ k₀ none k = (k ≤ n) × (none ≡ every k (λ j. no
 abbrev μ-loop : tie.MeasureT-loop
 μ-loop b from n none₀ k₀ none k = n - k
 
-loop-holds : tie.Need-loop-holds Inv-loop μ-loop
-unfolding every
-loop-holds c = (omega arith, refl)
-
 loop-again : tie.Need-loop-again Inv-loop μ-loop
 unfolding every
 loop-again c =
@@ -39,15 +35,7 @@ returns c =
     c .before .loop .inv .1 ∙ rw past
 
 pub none-is-zero-spec : {M : Type 1} → statement M
-none-is-zero-spec =
-    tie.close
-    (tie.spec
-    Inv-loop
-    μ-loop
-    loop-holds
-    (λ c. omega arith)
-    (λ c. omega arith)
-    (λ c. omega arith)
-    (λ c. omega arith)
-    loop-again
-    returns)
+unfolding every
+none-is-zero-spec = tie.close (tie.spec
+    Inv-loop μ-loop (λ c. (omega arith, refl)) (λ c. omega arith) (λ c. omega arith) (λ c. omega arith)
+    (λ c. omega arith) loop-again returns)

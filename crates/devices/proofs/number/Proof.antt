@@ -8,13 +8,12 @@ use borrow.Author.Needs.{needs}
 use Rattle.devices.proofs.number.Statement.{statement}
 use Rattle.devices.proofs.number.Tie as tie
 
-returns : tie.Need-returns
-unfolding deviceNumber
-returns c = sym (pick-true _ _ _ (lt-ltb _ _ (c .if1 .taken)))
-
 returns-2 : tie.Need-returns-2
 unfolding deviceNumber
 returns-2 c = c .get64 .ensures ∙ sym (pick-false _ _ _ (le-ltb _ _ (c .before .if1 .left)))
 
 pub number-spec : {M : Type 1} → statement M
-number-spec = tie.close (tie.spec returns (λ c κs. search needs) returns-2)
+unfolding deviceNumber
+number-spec = tie.close (tie.spec
+    (λ c. sym (pick-true _ _ _ (lt-ltb _ _ (c .if1 .taken))))
+    (λ c κs. search needs) returns-2)

@@ -41,15 +41,6 @@ returns-5 c =
     sym (pick-false _ _ _ (ne-eqb _ _ (c2 .before .if1 .left)) ∙ pick-false _ _ _ (ne-eqb _ _ (c2 .if2 .left)) ∙ pick-false _ _ _ (ne-eqb _ _ (c3 .if3 .left)) ∙ pick-false _ _ _ (ne-eqb _ _ (c .if4 .left)))
 
 pub operation-spec : {M : Type 1} → statement M
-operation-spec =
-    tie.close
-    (tie.spec
-    (λ c κs. search needs)
-    returns
-    (λ c κs. search needs)
-    returns-2
-    (λ c κs. search needs)
-    returns-3
-    (λ c κs. search needs)
-    returns-4
-    returns-5)
+operation-spec = tie.close (tie.spec
+    (λ c κs. search needs) returns (λ c κs. search needs) returns-2 (λ c κs. search needs) returns-3
+    (λ c κs. search needs) returns-4 returns-5)

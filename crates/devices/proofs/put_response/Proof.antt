@@ -7,9 +7,6 @@ use borrow.Author.Needs.{needs}
 use Rattle.devices.proofs.put_response.Statement.{statement}
 use Rattle.devices.proofs.put_response.Tie as tie
 
-same-length : tie.Need-same-length
-same-length c = simp length-set (search needs)
-
 returns : tie.Need-returns
 returns c =
     let c₆ = c .before .before in
@@ -21,18 +18,7 @@ returns c =
     response-stored _ _ _ _ _ (c₁ .before .before .before .pre) (c₁ .put32 .ensures) (c₂ .put322 .ensures) (c₃ .put64 .ensures) (c₄ .put642 .ensures) (c₅ .put323 .ensures) (c₆ .put324 .ensures)
 
 pub put-response-spec : {M : Type 1} → statement M
-put-response-spec =
-    tie.close
-    (tie.spec
-    (λ c κs. search needs)
-    (λ c. omega arith)
-    (λ c κs. search needs)
-    (λ c κs. search needs)
-    (λ c κs. search needs)
-    (λ c. omega arith)
-    (λ c κs. search needs)
-    (λ c. omega arith)
-    (λ c κs. search needs)
-    (λ c. search needs)
-    same-length
-    returns)
+put-response-spec = tie.close (tie.spec
+    (λ c κs. search needs) (λ c. omega arith) (λ c κs. search needs) (λ c κs. search needs) (λ c κs. search needs)
+    (λ c. omega arith) (λ c κs. search needs) (λ c. omega arith) (λ c κs. search needs) (λ c. search needs)
+    (λ c. simp length-set (search needs)) returns)

@@ -5,9 +5,6 @@ use Rattle.devices.proofs.Laws.{result-status, result-already, result-b
 use Rattle.devices.proofs.result_of.Statement.{statement}
 use Rattle.devices.proofs.result_of.Tie as tie
 
-returns : tie.Need-returns
-returns c = result-status _ _ _ (c .if1 .taken)
-
 returns-2 : tie.Need-returns-2
 returns-2 c = result-already _ _ _ (c .before .before .if1 .left) (c .if2 .taken)
 
@@ -27,4 +24,4 @@ returns-5 c =
     result-free _ _ _ (e .before .before .if1 .left) (e .if2 .left) (c .if4 .left)
 
 pub result-of-spec : {M : Type 1} → statement M
-result-of-spec = tie.close (tie.spec returns returns-2 returns-3 returns-4 returns-5)
+result-of-spec = tie.close (tie.spec (λ c. result-status _ _ _ (c .if1 .taken)) returns-2 returns-3 returns-4 returns-5)

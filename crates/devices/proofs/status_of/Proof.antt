@@ -7,13 +7,8 @@ use Rattle.model.proofs.Choice.{pick-true, pick-false}
 use Rattle.devices.proofs.status_of.Statement.{statement}
 use Rattle.devices.proofs.status_of.Tie as tie
 
-returns : tie.Need-returns
-unfolding deviceStatus
-returns c = sym (pick-true _ _ _ (eq-eqb _ _ (c .if1 .taken)))
-
-returns-2 : tie.Need-returns-2
-unfolding deviceStatus
-returns-2 c = sym (pick-false _ _ _ (ne-eqb _ _ (c .if1 .left)))
-
 pub status-of-spec : {M : Type 1} → statement M
-status-of-spec = tie.close (tie.spec returns returns-2)
+unfolding deviceStatus
+status-of-spec = tie.close (tie.spec
+    (λ c. sym (pick-true _ _ _ (eq-eqb _ _ (c .if1 .taken))))
+    (λ c. sym (pick-false _ _ _ (ne-eqb _ _ (c .if1 .left)))))

@@ -5,11 +5,6 @@ use Rattle.model.proofs.Choice.{pick-true, pick-false}
 use Rattle.devices.proofs.unknown_result.Statement.{statement}
 use Rattle.devices.proofs.unknown_result.Tie as tie
 
-returns : tie.Need-returns
-returns c = sym (pick-true _ _ _ (c .if1 .taken))
-
-returns-2 : tie.Need-returns-2
-returns-2 c = sym (pick-false _ _ _ (c .if1 .left))
-
 pub unknown-result-spec : {M : Type 1} → statement M
-unknown-result-spec = tie.close (tie.spec returns returns-2)
+unknown-result-spec = tie.close (tie.spec
+    (λ c. sym (pick-true _ _ _ (c .if1 .taken))) (λ c. sym (pick-false _ _ _ (c .if1 .left))))

@@ -2,8 +2,7 @@ use borrow.Author.Needs.{needs}
 use Rattle.exports.proofs.arkelutz_permit.Statement.{statement}
 use Rattle.exports.proofs.arkelutz_permit.Tie as tie
 
-returns : tie.Need-returns
-returns c = c .before .before .before .before .permit .ensures
-
 pub arkelutz-permit-spec : {M : Type 1} → statement M
-arkelutz-permit-spec = tie.close (tie.spec (λ c κs. search needs) (λ c. search needs) (λ c. search needs) returns)
+arkelutz-permit-spec = tie.close (tie.spec
+    (λ c κs. search needs) (λ c. search needs) (λ c. search needs)
+    (λ c. c .before .before .before .before .permit .ensures))

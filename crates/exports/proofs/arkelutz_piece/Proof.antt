@@ -13,5 +13,6 @@ returns-2 : tie.Need-returns-2
 returns-2 c = (omega arith, given-as _ _ _ _ _ _ _ _ _ _ _ _ (c .if1 .left) (c .before .before .before .before .before .piece .ensures))
 
 pub arkelutz-piece-spec : {M : Type 1} → statement M
-arkelutz-piece-spec =
-    tie.close (tie.spec (λ c κs. search needs) (λ c. search needs) (λ c. search needs) returns (λ c. search needs) (λ c. search needs) returns-2)
+arkelutz-piece-spec = tie.close (tie.spec
+    (λ c κs. search needs) (λ c. search needs) (λ c. search needs) returns (λ c. search needs) (λ c. search needs)
+    returns-2)

@@ -2,8 +2,7 @@ use borrow.Author.Needs.{needs}
 use Rattle.exports.proofs.arkelutz_take.Statement.{statement}
 use Rattle.exports.proofs.arkelutz_take.Tie as tie
 
-returns : tie.Need-returns
-returns c = c .before .before .before .before .take .ensures
-
 pub arkelutz-take-spec : {M : Type 1} → statement M
-arkelutz-take-spec = tie.close (tie.spec (λ c κs. search needs) (λ c. search needs) (λ c. search needs) returns)
+arkelutz-take-spec = tie.close (tie.spec
+    (λ c κs. search needs) (λ c. search needs) (λ c. search needs)
+    (λ c. c .before .before .before .before .take .ensures))

@@ -27,12 +27,4 @@ returns-2 c =
     (byte-behind (a .part .now) (a .piece .now) (a .i) (c .before .if1 .left) (omega arith), omega arith)
 
 pub byte-at-spec : {M : Type 1} → statement M
-byte-at-spec =
-    tie.close
-    (tie.spec
-    (λ c. search needs)
-    cast-result
-    returns
-    (λ c. search needs)
-    cast-result-2
-    returns-2)
+byte-at-spec = tie.close (tie.spec (λ c. search needs) cast-result returns (λ c. search needs) cast-result-2 returns-2)

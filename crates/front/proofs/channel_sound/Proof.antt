@@ -36,15 +36,6 @@ returns-4 c =
     rw (d .before .before .kept-of .ensures) (sym (sound-dropping (front (d .before .before .before .before)) _ (few (d .before)) (rw (d .dropping-of .ensures) at (c .before .if2 .left)) (rw (d .dropping-of .ensures) at (c .if3 .left))))
 
 pub channel-sound-spec : {M : Type 1} → statement M
-channel-sound-spec =
-    tie.close
-    (tie.spec
-    (λ c κs. search needs)
-    (λ c κs. search needs)
-    returns
-    (λ c κs. search needs)
-    (λ c κs. search needs)
-    (λ c κs. search needs)
-    returns-2
-    returns-3
-    returns-4)
+channel-sound-spec = tie.close (tie.spec
+    (λ c κs. search needs) (λ c κs. search needs) returns (λ c κs. search needs) (λ c κs. search needs)
+    (λ c κs. search needs) returns-2 returns-3 returns-4)

@@ -15,9 +15,6 @@ Inv-loop bytes₀ at piece i₀ bytes i = (i ≤ length piece) × (bytes ≡ set
 abbrev μ-loop : tie.MeasureT-loop
 μ-loop bytes₀ at piece i₀ bytes i = length piece - i
 
-loop-holds : tie.Need-loop-holds Inv-loop μ-loop
-loop-holds c = (omega arith, refl)
-
 loop-again : tie.Need-loop-again Inv-loop μ-loop
 loop-again c = (omega arith, sets-more _ _ _ _ (c .before .loop-test .taken) (c .before .before .loop .inv .1))
 
@@ -27,16 +24,6 @@ returns c =
     l .inv .1 ∙ ap (sets _ _) (take-all (l .i) (c .before .before .args .piece .now) (omega arith))
 
 pub copy-spec : {M : Type 1} → statement M
-copy-spec =
-    tie.close
-    (tie.spec
-    Inv-loop
-    μ-loop
-    loop-holds
-    (λ c. omega arith)
-    (λ c. omega arith)
-    (λ c. omega arith)
-    (λ c. omega arith)
-    (λ c. omega arith)
-    loop-again
-    returns)
+copy-spec = tie.close (tie.spec
+    Inv-loop μ-loop (λ c. (omega arith, refl)) (λ c. omega arith) (λ c. omega arith) (λ c. omega arith)
+    (λ c. omega arith) (λ c. omega arith) loop-again returns)

@@ -17,15 +17,6 @@ Inv-loop words bytes c₀ c = (c ≤ channelCount) × (every c (λ i. frontSound
 abbrev μ-loop : tie.MeasureT-loop
 μ-loop words bytes c₀ c = channelCount - c
 
-word-count-requires : tie.Need-word-count-requires Inv-loop μ-loop
-word-count-requires c κs = tt
-
-byte-count-requires : tie.Need-byte-count-requires Inv-loop μ-loop
-byte-count-requires c κs = tt
-
-loop-holds : tie.Need-loop-holds Inv-loop μ-loop
-loop-holds c = (omega arith, every-none _)
-
 returns : tie.Need-returns Inv-loop μ-loop
 unfolding frontSound
 returns c = (every-fails _ _ _ (c .before .before .loop-test .taken) (no _ (c .before .channel-sound .ensures) (c .if1 .taken)), c .before .before .before .before .before .word-count .ensures .1, c .before .before .before .before .byte-count .ensures .1)
@@ -38,17 +29,6 @@ unfolding frontSound
 returns-2 c = (every-all _ _ _ (c .before .loop .inv .0) (c .loop-test .left) (c .before .loop .inv .1), c .before .before .before .word-count .ensures .1, c .before .before .byte-count .ensures .1)
 
 pub front-sound-spec : {M : Type 1} → statement M
-front-sound-spec =
-    tie.close
-    (tie.spec
-    Inv-loop
-    μ-loop
-    word-count-requires
-    byte-count-requires
-    loop-holds
-    (λ c κs. omega arith)
-    returns
-    (λ c. omega arith)
-    (λ c. omega arith)
-    loop-again
-    returns-2)
+front-sound-spec = tie.close (tie.spec
+    Inv-loop μ-loop (λ c κs. omega arith) (λ c κs. omega arith) (λ c. (omega arith, every-none _)) (λ c κs. omega arith)
+    returns (λ c. omega arith) (λ c. omega arith) loop-again returns-2)

@@ -52,17 +52,8 @@ ends c =
 stored : (c : tie.After-kept-of) → length (take (endOf c - c .kept-of .result) (start c .args .piece .now)) ≡ endOf c - c .kept-of .result
 stored c = length-take-le (endOf c - c .kept-of .result) (start c .args .piece .now) (ends c .ends)
 
-sub-taken : tie.Need-sub-taken
-sub-taken c = ends c .starts
-
-mul-copy : tie.Need-mul-copy
-mul-copy c = omega (arith, start (c .before) .pre .fronts .within)
-
 add-copy : tie.Need-add-copy
 add-copy c = omega (arith, start (c .before) .pre .fronts .within, ends (c .before))
-
-slice-aggregate-copy : tie.Need-slice-aggregate-copy
-slice-aggregate-copy c = sym (stored (c .before .before))
 
 copy-requires : tie.Need-copy-requires
 copy-requires c κs =
@@ -110,21 +101,8 @@ returns-2 c =
     (λ x. absurd (x z)))
 
 pub give-joined-spec : {M : Type 1} → statement M
-give-joined-spec =
-    tie.close
-    (tie.spec
-    (λ c κs. search needs)
-    (λ c κs. search needs)
-    returns
-    kept-of-requires
-    sub-taken
-    mul-copy
-    add-copy
-    slice-aggregate-copy
-    copy-requires
-    part-of-requires
-    give-requires
-    (λ c κs. search needs)
-    (λ c. search needs)
-    (λ c. search needs)
-    returns-2)
+give-joined-spec = tie.close (tie.spec
+    (λ c κs. search needs) (λ c κs. search needs) returns kept-of-requires (λ c. ends c .starts)
+    (λ c. omega (arith, start (c .before) .pre .fronts .within))
+    add-copy (λ c. sym (stored (c .before .before))) copy-requires part-of-requires give-requires (λ c κs. search needs)
+    (λ c. search needs) (λ c. search needs) returns-2)

@@ -38,6 +38,5 @@ returns c =
     (λ n. ap (λ (l : List ℕ). record { words = l; bytes = a .bytes .now }) (w ∙ pick-false _ _ _ (ne-eqb _ _ n))))
 
 pub give-whole-spec : {M : Type 1} → statement M
-give-whole-spec =
-    tie.close
-    (tie.spec slice-aggregate-give (λ c κs. search needs) (λ c κs. search needs) (λ c. search needs) (λ c. search needs) returns)
+give-whole-spec = tie.close (tie.spec
+    slice-aggregate-give (λ c κs. search needs) (λ c κs. search needs) (λ c. search needs) (λ c. search needs) returns)

@@ -10,9 +10,6 @@ returns : tie.Need-returns
 unfolding pick
 returns c = rw (ne-eqb _ _ (c .before .if1 .taken)) (c .refused .ensures)
 
-returns-2 : tie.Need-returns-2
-unfolding pick
-returns-2 c = rw (eq-eqb _ _ (c .if1 .left))
-
 pub given-spec : {M : Type 1} → statement M
-given-spec = tie.close (tie.spec (λ c κs. search needs) returns returns-2)
+unfolding pick
+given-spec = tie.close (tie.spec (λ c κs. search needs) returns (λ c. rw (eq-eqb _ _ (c .if1 .left))))

@@ -32,9 +32,6 @@ add-copy c = omega (arith, room (c .before), start (c .before) .pre .fronts .wit
 copy-requires : tie.Need-copy-requires
 copy-requires c κs = omega (arith, room (c .before), start (c .before) .pre .fronts .within)
 
-add-set-words : tie.Need-add-set-words
-add-set-words c = omega (arith, room (c .before .before .before))
-
 returns-2 : tie.Need-returns-2
 returns-2 c =
     let d = c .before .before .before .before in
@@ -44,16 +41,8 @@ returns-2 c =
     (record { words = rw k at (c .set-words .ensures); bytes = rw k at (c .before .before .copy .ensures); fits = omega (arith, room d, k) })
 
 pub keep-piece-spec : {M : Type 1} → statement M
-keep-piece-spec =
-    tie.close
-    (tie.spec
-    (λ c κs. search needs)
-    (λ c κs. search needs)
-    returns
-    (λ c κs. search needs)
-    (λ c. search needs)
-    add-copy
+keep-piece-spec = tie.close (tie.spec
+    (λ c κs. search needs) (λ c κs. search needs) returns (λ c κs. search needs) (λ c. search needs) add-copy
     copy-requires
-    add-set-words
-    (λ c κs. search needs)
-    returns-2)
+    (λ c. omega (arith, room (c .before .before .before)))
+    (λ c κs. search needs) returns-2)

@@ -9,10 +9,6 @@ use borrow.Author.Needs.{needs}
 use Rattle.front.proofs.lent_refusal.Statement.{statement}
 use Rattle.front.proofs.lent_refusal.Tie as tie
 
-returns : tie.Need-returns
-unfolding lentRefusal refusalIn pick
-returns c = rw (no _ (c .before .sound .ensures) (c .if1 .taken))
-
 returns-2 : tie.Need-returns-2
 unfolding lentRefusal refusalIn pick
 returns-2 c = rw (yes _ (c .before .before .sound .ensures) (c .before .if1 .left), ne-eqb _ _ (c .if2 .taken))
@@ -34,5 +30,8 @@ returns-5 c =
     rw (yes _ (b .before .before .sound .ensures) (b .before .if1 .left), eq-eqb _ _ (b .if2 .left), le-ltb _ _ (c .before .if3 .left), not-false (b .before .before .before .args .within) (c .if4 .left))
 
 pub lent-refusal-spec : {M : Type 1} → statement M
-lent-refusal-spec =
-    tie.close (tie.spec (λ c κs. search needs) returns returns-2 returns-3 returns-4 returns-5)
+unfolding lentRefusal refusalIn pick
+lent-refusal-spec = tie.close (tie.spec
+    (λ c κs. search needs)
+    (λ c. rw (no _ (c .before .sound .ensures) (c .if1 .taken)))
+    returns-2 returns-3 returns-4 returns-5)

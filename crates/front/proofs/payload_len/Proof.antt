@@ -18,26 +18,9 @@ returns-2 c =
     let a = c .before .before .before .before .before .args in
     (c .get322 .ensures .0 ∙ sym (number-before (a .part .now) (a .piece .now) 4 4 (c .before .if2 .taken)), c .get322 .ensures .1)
 
-returns-3 : tie.Need-returns-3
-unfolding numberAt
-returns-3 c = omega arith
-
 pub payload-len-spec : {M : Type 1} → statement M
-payload-len-spec =
-    tie.close
-    (tie.spec
-    (λ c κs. search needs)
-    returns
-    (λ c κs. search needs)
-    returns-2
-    (λ c κs. search needs)
-    (λ c. search needs)
-    (λ c κs. search needs)
-    (λ c. search needs)
-    (λ c. search needs)
-    (λ c κs. search needs)
-    (λ c. search needs)
-    (λ c. search needs)
-    (λ c κs. search needs)
-    (λ c. search needs)
-    returns-3)
+unfolding numberAt
+payload-len-spec = tie.close (tie.spec
+    (λ c κs. search needs) returns (λ c κs. search needs) returns-2 (λ c κs. search needs) (λ c. search needs)
+    (λ c κs. search needs) (λ c. search needs) (λ c. search needs) (λ c κs. search needs) (λ c. search needs)
+    (λ c. search needs) (λ c κs. search needs) (λ c. search needs) (λ c. omega arith))

@@ -20,9 +20,6 @@ returns-2 c =
     rw (c .refused2 .ensures)
     (piece-outside _ _ _ _ _ _ _ (yes _ (e .before .front-sound .ensures .0) (e .if1 .left)) (t .if2 .taken) (c .before .lent-refusal .ensures))
 
-dropping-of-requires : tie.Need-dropping-of-requires
-dropping-of-requires c κs = c .before .if2 .left
-
 -- the front is sound and the channel in range
 abbrev start : tie.Else2 → tie.Start
 start c = c .before .before .before .before .before .before .before .before
@@ -43,34 +40,15 @@ drop-piece-requires c κs =
     let d = t .before in
     (fronts (d .before .before), λ z. t .if3 .taken (d .dropping-of .ensures ∙ z))
 
-returns-3 : tie.Need-returns-3
-returns-3 c = c .drop-piece .ensures
-
 take-piece-requires : tie.Need-take-piece-requires
 take-piece-requires c κs =
     let t = c .before .before .before .before .before in
     let d = t .before in
     (fronts (d .before .before), sym (d .dropping-of .ensures) ∙ t .if3 .left)
 
-returns-4 : tie.Need-returns-4
-returns-4 c = c .before .before .before .before .take-piece .ensures
-
 pub piece-spec : {M : Type 1} → statement M
-piece-spec =
-    tie.close
-    (tie.spec
-    (λ c κs. search needs)
-    (λ c κs. search needs)
-    returns
-    (λ c κs. search needs)
-    (λ c κs. search needs)
-    returns-2
-    dropping-of-requires
-    drop-piece-requires
-    (λ c. search needs)
-    (λ c. search needs)
-    returns-3
-    take-piece-requires
-    (λ c. search needs)
-    (λ c. search needs)
-    returns-4)
+piece-spec = tie.close (tie.spec
+    (λ c κs. search needs) (λ c κs. search needs) returns (λ c κs. search needs) (λ c κs. search needs) returns-2
+    (λ c κs. c .before .if2 .left) drop-piece-requires (λ c. search needs) (λ c. search needs)
+    (λ c. c .drop-piece .ensures) take-piece-requires (λ c. search needs) (λ c. search needs)
+    (λ c. c .before .before .before .before .take-piece .ensures))

@@ -33,19 +33,9 @@ opened c =
       within = opening-within (start c .args .state .now) (start c .args .channel) (zero c);
     }
 
-set-words-requires : tie.Need-set-words-requires
-set-words-requires c κs = opened (c .before) .within
-
 returns-3 : tie.Need-returns-3
 returns-3 c = let d = c .before .before in reopen-done _ _ _ _ (opened d) (zero d) (record { words = c .set-words .ensures; bytes = refl; fits = omega arith })
 
 pub reopen-spec : {M : Type 1} → statement M
-reopen-spec =
-    tie.close
-    (tie.spec
-    (λ c κs. search needs)
-    returns
-    (λ c κs. search needs)
-    returns-2
-    set-words-requires
-    returns-3)
+reopen-spec = tie.close (tie.spec
+    (λ c κs. search needs) returns (λ c κs. search needs) returns-2 (λ c κs. opened (c .before) .within) returns-3)

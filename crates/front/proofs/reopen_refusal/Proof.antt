@@ -9,10 +9,6 @@ use borrow.Author.Needs.{needs}
 use Rattle.front.proofs.reopen_refusal.Statement.{statement}
 use Rattle.front.proofs.reopen_refusal.Tie as tie
 
-returns : tie.Need-returns
-unfolding openingRefusal refusalIn pick
-returns c = rw (no _ (c .before .sound .ensures) (c .if1 .taken))
-
 returns-2 : tie.Need-returns-2
 unfolding openingRefusal refusalIn pick
 returns-2 c = rw (yes _ (c .before .before .sound .ensures) (c .before .if1 .left), le-ltb _ _ (c .if2 .taken))
@@ -22,4 +18,8 @@ unfolding openingRefusal refusalIn pick
 returns-3 c = rw (yes _ (c .before .before .sound .ensures) (c .before .if1 .left), lt-ltb _ _ (c .if2 .left))
 
 pub reopen-refusal-spec : {M : Type 1} → statement M
-reopen-refusal-spec = tie.close (tie.spec (λ c κs. search needs) returns returns-2 returns-3)
+unfolding openingRefusal refusalIn pick
+reopen-refusal-spec = tie.close (tie.spec
+    (λ c κs. search needs)
+    (λ c. rw (no _ (c .before .sound .ensures) (c .if1 .taken)))
+    returns-2 returns-3)

@@ -14,9 +14,6 @@ use Rattle.front.proofs.Pieces.{begins}
 use Rattle.front.proofs.take_piece.Statement.{statement}
 use Rattle.front.proofs.take_piece.Tie as tie
 
-kept-of-requires : tie.Need-kept-of-requires
-kept-of-requires c κs = c .before .before .before .before .pre .0 .within
-
 -- where the kept bytes are counted: the entry and the front
 abbrev start : tie.After-kept-of → tie.Start
 start c = c .before .before .before .before .before
@@ -56,9 +53,6 @@ keep-piece-requires c κs =
     let p = start (counted (d .before)) .pre in
     record { fronts = p .0; unmarked = p .1; comes = comes d .kept (not-true (d .next-of .result .given) (t .if1 .taken)) }
 
-returns : tie.Need-returns
-returns c = c .keep-piece .ensures
-
 give-whole-requires : tie.Need-give-whole-requires
 give-whole-requires c κs =
     let t = c .before .before .before .before .before in
@@ -69,9 +63,6 @@ give-whole-requires c κs =
       sym (k .kept-of .ensures) ∙ t .if2 .taken,
     )
 
-returns-2 : tie.Need-returns-2
-returns-2 c = c .before .before .before .before .give-whole .ensures
-
 give-joined-requires : tie.Need-give-joined-requires
 give-joined-requires c κs =
     let t = c .before .before .before .before .before in
@@ -79,25 +70,11 @@ give-joined-requires c κs =
     let p = start (counted (d .before)) .pre in
     record { fronts = p .0; unmarked = p .1; comes = comes d .gave (not-false (d .next-of .result .given) (t .before .if1 .left)) }
 
-returns-3 : tie.Need-returns-3
-returns-3 c = c .before .before .before .before .give-joined .ensures
-
 pub take-piece-spec : {M : Type 1} → statement M
-take-piece-spec =
-    tie.close
-    (tie.spec
-    kept-of-requires
-    part-of-requires
-    next-of-requires
-    keep-piece-requires
-    (λ c. search needs)
-    (λ c. search needs)
-    returns
-    give-whole-requires
-    (λ c. search needs)
-    (λ c. search needs)
-    returns-2
-    give-joined-requires
-    (λ c. search needs)
-    (λ c. search needs)
-    returns-3)
+take-piece-spec = tie.close (tie.spec
+    (λ c κs. c .before .before .before .before .pre .0 .within)
+    part-of-requires next-of-requires keep-piece-requires (λ c. search needs) (λ c. search needs)
+    (λ c. c .keep-piece .ensures) give-whole-requires (λ c. search needs) (λ c. search needs)
+    (λ c. c .before .before .before .before .give-whole .ensures)
+    give-joined-requires (λ c. search needs) (λ c. search needs)
+    (λ c. c .before .before .before .before .give-joined .ensures))

@@ -7,9 +7,6 @@ use Rattle.vio_model.specs.Calls.{silent, Fits}
 use Rattle.handshake.proofs.accepted.Statement.{statement}
 use Rattle.handshake.proofs.accepted.Tie as tie
 
-enum-told : tie.Need-enum-told
-enum-told c = search needs
-
 pack-requires : tie.Need-pack-requires
 pack-requires c κs = let d = c .before .before .before .before .before in
     subst Fits (d .effect2 .given .1) (d .before .before .before .pre .1)
@@ -24,19 +21,7 @@ returns-3 : tie.Need-returns-3
 returns-3 c = let d = c .before .before .before in sends _ _ _ _ _ _ (d .before .before .before .effect2 .given .1) (d .set-session2 .ensures) (c .pack .ensures)
 
 pub accepted-spec : {M : Type 1} → statement M
-accepted-spec =
-    tie.close
-    (tie.spec
-    enum-told
-    (λ c κs. search needs)
-    (λ c. search needs)
-    (λ c κs. search needs)
-    (λ c κs. search needs)
-    (λ c. search needs)
-    (λ c κs. search needs)
-    pack-requires
-    returns
-    (λ c. search needs)
-    returns-2
-    (λ c. search needs)
+accepted-spec = tie.close (tie.spec
+    (λ c. search needs) (λ c κs. search needs) (λ c. search needs) (λ c κs. search needs) (λ c κs. search needs)
+    (λ c. search needs) (λ c κs. search needs) pack-requires returns (λ c. search needs) returns-2 (λ c. search needs)
     returns-3)

@@ -33,15 +33,6 @@ returns-2 c = let d = c .before .before .before .before in
     receive-accepted _ _ (e .before .sound .ensures) _ _ _ _ _ _ _ (e .before .before .before .before .fits .next .fits) (e .if1 .left) (d .before .before .unpack .ensures) (d .heard .ensures) (c .before .before .accepted .ensures)
 
 pub receive-spec : {M : Type 1} → statement M
-receive-spec =
-    tie.close
-    (tie.spec
-    (λ c κs. search needs)
-    (λ c κs. search needs)
-    (λ c. search needs)
-    returns
-    (λ c κs. search needs)
-    heard-requires
-    accepted-requires
-    (λ c. search needs)
-    returns-2)
+receive-spec = tie.close (tie.spec
+    (λ c κs. search needs) (λ c κs. search needs) (λ c. search needs) returns (λ c κs. search needs) heard-requires
+    accepted-requires (λ c. search needs) returns-2)

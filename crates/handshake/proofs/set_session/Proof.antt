@@ -5,9 +5,6 @@ use Rattle.vio_model.specs.Layout.{withSession, sessionWords}
 use Rattle.handshake.proofs.set_session.Statement.{statement}
 use Rattle.handshake.proofs.set_session.Tie as tie
 
-enum-told : tie.Need-enum-told
-enum-told c = search needs
-
 returns : tie.Need-returns
 unfolding withSession sessionWords
 returns c = rw (c .before .before .before .before .enum-told .given .1) (c .before .before .set-words .ensures)
@@ -25,22 +22,7 @@ unfolding withSession sessionWords
 returns-4 c = rw (c .before .before .before .before .enum-told2 .given .1) (c .before .before .set-words4 .ensures)
 
 pub set-session-spec : {M : Type 1} → statement M
-set-session-spec =
-    tie.close
-    (tie.spec
-    enum-told
-    (λ c κs. search needs)
-    (λ c. search needs)
-    (λ c κs. search needs)
-    (λ c. search needs)
-    (λ c κs. search needs)
-    (λ c. search needs)
-    (λ c κs. search needs)
-    (λ c. search needs)
-    returns
-    (λ c. search needs)
-    returns-2
-    (λ c. search needs)
-    returns-3
-    (λ c. search needs)
-    returns-4)
+set-session-spec = tie.close (tie.spec
+    (λ c. search needs) (λ c κs. search needs) (λ c. search needs) (λ c κs. search needs) (λ c. search needs)
+    (λ c κs. search needs) (λ c. search needs) (λ c κs. search needs) (λ c. search needs) returns (λ c. search needs)
+    returns-2 (λ c. search needs) returns-3 (λ c. search needs) returns-4)

@@ -5,10 +5,6 @@ use borrow.Author.Needs.{needs}
 use Rattle.handshake.proofs.set_words.Statement.{statement}
 use Rattle.handshake.proofs.set_words.Tie as tie
 
-returns : tie.Need-returns
-returns c = refl
-
 pub set-words-spec : {M : Type 1} → statement M
-set-words-spec =
-    tie.close
-    (tie.spec (λ c. search needs) (λ c. search needs) (λ c. search needs) (λ c. search needs) (λ c. search needs) returns)
+set-words-spec = tie.close (tie.spec
+    (λ c. search needs) (λ c. search needs) (λ c. search needs) (λ c. search needs) (λ c. search needs) (λ c. refl))

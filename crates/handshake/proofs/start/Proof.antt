@@ -26,14 +26,6 @@ returns-2 c = let d = c .before .before .before .before in
     start-accepted _ _ (d .before .before .before .sound .ensures) _ _ _ _ (d .before .before .before .before .before .before .fits .id .fits) (d .before .before .if1 .left) (d .asking .ensures) (c .before .before .accepted .ensures)
 
 pub start-spec : {M : Type 1} → statement M
-start-spec =
-    tie.close
-    (tie.spec
-    (λ c κs. search needs)
-    (λ c κs. search needs)
-    (λ c. search needs)
-    returns
-    asking-requires
-    accepted-requires
-    (λ c. search needs)
-    returns-2)
+start-spec = tie.close (tie.spec
+    (λ c κs. search needs) (λ c κs. search needs) (λ c. search needs) returns asking-requires accepted-requires
+    (λ c. search needs) returns-2)

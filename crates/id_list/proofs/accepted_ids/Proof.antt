@@ -11,8 +11,7 @@ use Rattle.id_list.proofs.accepted_ids.Tie as tie
 returns : tie.Need-returns
 returns c = refute _ (λ t. let r = accepted-rules _ t in omega arith)
 
-returns-2 : tie.Need-returns-2
-returns-2 c = c .keep-rules .ensures ∙ sym (accepted-last _ (omega arith))
-
 pub accepted-ids-spec : {M : Type 1} → statement M
-accepted-ids-spec = tie.close (tie.spec returns (λ c κs. search needs) returns-2)
+accepted-ids-spec = tie.close (tie.spec
+    returns (λ c κs. search needs)
+    (λ c. c .keep-rules .ensures ∙ sym (accepted-last _ (omega arith))))

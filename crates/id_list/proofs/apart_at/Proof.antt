@@ -20,10 +20,6 @@ Inv-loop hashes distance apart₀ k₀ apart k = (k ≤ mostIds) × (apart ≡ e
 abbrev μ-loop : tie.MeasureT-loop
 μ-loop hashes distance apart₀ k₀ apart k = mostIds - k
 
-loop-holds : tie.Need-loop-holds Inv-loop μ-loop
-unfolding every
-loop-holds c = (omega arith, refl)
-
 loop-again : tie.Need-loop-again Inv-loop μ-loop
 unfolding every
 loop-again c = let l = c .before .before .before .loop in
@@ -36,18 +32,7 @@ returns c = let past : c .before .loop .k ≡ mostIds = omega (arith, c .before 
     c .before .loop .inv .1 ∙ rw past
 
 pub apart-at-spec : {M : Type 1} → statement M
-apart-at-spec =
-    tie.close
-    (tie.spec
-    Inv-loop
-    μ-loop
-    loop-holds
-    (λ c. omega arith)
-    (λ c. omega arith)
-    (λ c. omega arith)
-    (λ c. omega arith)
-    (λ c. omega arith)
-    (λ c. omega arith)
-    (λ c. omega arith)
-    loop-again
-    returns)
+unfolding every
+apart-at-spec = tie.close (tie.spec
+    Inv-loop μ-loop (λ c. (omega arith, refl)) (λ c. omega arith) (λ c. omega arith) (λ c. omega arith)
+    (λ c. omega arith) (λ c. omega arith) (λ c. omega arith) (λ c. omega arith) loop-again returns)

@@ -17,9 +17,6 @@ Inv-loop words at n p₀ p = (p ≤ n) × (every p (idApart words at) ≡ true)
 abbrev μ-loop : tie.MeasureT-loop
 μ-loop words at n p₀ p = n - p
 
-loop-holds : tie.Need-loop-holds Inv-loop μ-loop
-loop-holds c = (omega arith, every-none _)
-
 id-apart-requires : tie.Need-id-apart-requires Inv-loop μ-loop
 id-apart-requires c κs =
     let each = c .before .before .before .pre .1 in
@@ -40,15 +37,6 @@ returns-2 : tie.Need-returns-2 Inv-loop μ-loop
 returns-2 c = let l = c .before .loop in every-all _ _ _ (l .inv .0) (c .loop-test .left) (l .inv .1)
 
 pub each-apart-spec : {M : Type 1} → statement M
-each-apart-spec =
-    tie.close
-    (tie.spec
-    Inv-loop
-    μ-loop
-    loop-holds
-    id-apart-requires
-    returns
-    (λ c. omega arith)
-    (λ c. omega arith)
-    loop-again
-    returns-2)
+each-apart-spec = tie.close (tie.spec
+    Inv-loop μ-loop (λ c. (omega arith, every-none _)) id-apart-requires returns (λ c. omega arith) (λ c. omega arith)
+    loop-again returns-2)

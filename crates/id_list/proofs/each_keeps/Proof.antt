@@ -30,9 +30,6 @@ returns c =
     let i = c .before in
     (every-fails _ _ _ (i .before .loop-test .taken) (no _ (i .hashed-id .ensures .0) (c .if1 .taken)), λ t. absurd (clash _ refl t))
 
-folded-requires : tie.Need-folded-requires Inv-loop μ-loop
-folded-requires c κs = tt
-
 loop-again : tie.Need-loop-again Inv-loop μ-loop
 loop-again c =
     let i = c .before .before in
@@ -51,21 +48,6 @@ returns-2 c =
     (every-all _ _ _ (i .0) past (i .1), λ t. rw same at (i .3))
 
 pub each-keeps-spec : {M : Type 1} → statement M
-each-keeps-spec =
-    tie.close
-    (tie.spec
-    Inv-loop
-    μ-loop
-    loop-holds
-    (λ c κs. omega arith)
-    returns
-    folded-requires
-    (λ c. omega arith)
-    (λ c. omega arith)
-    (λ c. omega arith)
-    (λ c. omega arith)
-    (λ c. omega arith)
-    (λ c. omega arith)
-    (λ c. omega arith)
-    loop-again
-    returns-2)
+each-keeps-spec = tie.close (tie.spec
+    Inv-loop μ-loop loop-holds (λ c κs. omega arith) returns (λ c κs. omega arith) (λ c. omega arith) (λ c. omega arith)
+    (λ c. omega arith) (λ c. omega arith) (λ c. omega arith) (λ c. omega arith) (λ c. omega arith) loop-again returns-2)

@@ -14,30 +14,9 @@ Inv-loop hashes₀ p₀ hashes p = (p ≤ mostIds) × (length hashes ≡ 2 * mos
 abbrev μ-loop : tie.MeasureT-loop
 μ-loop hashes₀ p₀ hashes p = mostIds - p
 
-loop-holds : tie.Need-loop-holds Inv-loop μ-loop
-loop-holds c = (omega arith, refl)
-
-loop-again : tie.Need-loop-again Inv-loop μ-loop
-loop-again c = (omega arith, simp length-set (c .before .loop .inv .1))
-
-returns : tie.Need-returns Inv-loop μ-loop
-returns c = c .before .loop .inv .1
-
 pub first-hashes-spec : {M : Type 1} → statement M
-first-hashes-spec =
-    tie.close
-    (tie.spec
-    Inv-loop
-    μ-loop
-    loop-holds
-    (λ c. omega arith)
-    (λ c. omega arith)
-    (λ c. omega arith)
-    (λ c. omega arith)
-    (λ c. omega arith)
-    (λ c. omega arith)
-    (λ c. omega arith)
-    (λ c. omega arith)
-    (λ c. omega arith)
-    loop-again
-    returns)
+first-hashes-spec = tie.close (tie.spec
+    Inv-loop μ-loop (λ c. (omega arith, refl)) (λ c. omega arith) (λ c. omega arith) (λ c. omega arith)
+    (λ c. omega arith) (λ c. omega arith) (λ c. omega arith) (λ c. omega arith) (λ c. omega arith) (λ c. omega arith)
+    (λ c. (omega arith, simp length-set (c .before .loop .inv .1)))
+    (λ c. c .before .loop .inv .1))

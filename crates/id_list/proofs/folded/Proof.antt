@@ -6,9 +6,6 @@ use Rattle.id_list.specs.Hashes.{folded}
 use Rattle.id_list.proofs.folded.Statement.{statement}
 use Rattle.id_list.proofs.folded.Tie as tie
 
-returns : tie.Need-returns
-unfolding folded
-returns c = refl
-
 pub folded-spec : {M : Type 1} → statement M
-folded-spec = tie.close (tie.spec (λ c. search needs) returns)
+unfolding folded
+folded-spec = tie.close (tie.spec (λ c. search needs) (λ c. refl))

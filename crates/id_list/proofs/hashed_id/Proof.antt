@@ -24,21 +24,7 @@ returns-3 c =
     (named .0 ∙ id-last _ _ _ (omega arith) (omega arith), named .1)
 
 pub hashed-id-spec : {M : Type 1} → statement M
-hashed-id-spec =
-    tie.close
-    (tie.spec
-    (λ c. omega arith)
-    (λ c. omega arith)
-    (λ c. omega arith)
-    (λ c. omega arith)
-    returns
-    (λ c. omega arith)
-    (λ c. omega arith)
-    (λ c. omega arith)
-    returns-2
-    (λ c. omega arith)
-    (λ c. omega arith)
-    (λ c. omega arith)
-    (λ c. omega arith)
-    (λ c κs. omega arith)
-    returns-3)
+hashed-id-spec = tie.close (tie.spec
+    (λ c. omega arith) (λ c. omega arith) (λ c. omega arith) (λ c. omega arith) returns (λ c. omega arith)
+    (λ c. omega arith) (λ c. omega arith) returns-2 (λ c. omega arith) (λ c. omega arith) (λ c. omega arith)
+    (λ c. omega arith) (λ c κs. omega arith) returns-3)

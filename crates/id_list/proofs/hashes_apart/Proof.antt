@@ -17,10 +17,6 @@ Inv-loop hashes apart₀ d₀ apart d = (d ≤ mostIds / 2) × (apart ≡ every 
 abbrev μ-loop : tie.MeasureT-loop
 μ-loop hashes apart₀ d₀ apart d = mostIds / 2 - d
 
-loop-holds : tie.Need-loop-holds Inv-loop μ-loop
-unfolding every
-loop-holds c = (omega arith, refl)
-
 loop-again : tie.Need-loop-again Inv-loop μ-loop
 unfolding every
 loop-again c = let l = c .before .before .loop in
@@ -32,15 +28,7 @@ returns c = let past : c .before .loop .d ≡ mostIds / 2 = omega (arith, c .bef
     c .before .loop .inv .1 ∙ rw past
 
 pub hashes-apart-spec : {M : Type 1} → statement M
-hashes-apart-spec =
-    tie.close
-    (tie.spec
-    Inv-loop
-    μ-loop
-    loop-holds
-    (λ c. omega arith)
-    (λ c κs. omega arith)
-    (λ c. omega arith)
-    (λ c. omega arith)
-    loop-again
-    returns)
+unfolding every
+hashes-apart-spec = tie.close (tie.spec
+    Inv-loop μ-loop (λ c. (omega arith, refl)) (λ c. omega arith) (λ c κs. omega arith) (λ c. omega arith)
+    (λ c. omega arith) loop-again returns)

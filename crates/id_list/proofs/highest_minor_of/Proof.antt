@@ -6,11 +6,7 @@ use native.Mathlib.Omega.{arith}
 use Rattle.id_list.proofs.highest_minor_of.Statement.{statement}
 use Rattle.id_list.proofs.highest_minor_of.Tie as tie
 
-returns : tie.Need-returns
-unfolding idIn
-returns c = refl
-
 pub highest-minor-of-spec : {M : Type 1} → statement M
-highest-minor-of-spec =
-    tie.close
-    (tie.spec (λ c. omega arith) (λ c. omega arith) (λ c. omega arith) (λ c. omega arith) (λ c. omega arith) returns)
+unfolding idIn
+highest-minor-of-spec = tie.close (tie.spec
+    (λ c. omega arith) (λ c. omega arith) (λ c. omega arith) (λ c. omega arith) (λ c. omega arith) (λ c. refl))

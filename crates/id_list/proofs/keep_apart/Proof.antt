@@ -41,13 +41,6 @@ returns-3 c =
     c .each-apart .ensures ∙ ids-last _ _ _ (start e .pre .0) (each e)
 
 pub keep-apart-spec : {M : Type 1} → statement M
-keep-apart-spec =
-    tie.close
-    (tie.spec
-    (λ c κs. search needs)
-    (λ c κs. search needs)
-    returns
-    (λ c κs. search needs)
-    returns-2
-    each-apart-requires
+keep-apart-spec = tie.close (tie.spec
+    (λ c κs. search needs) (λ c κs. search needs) returns (λ c κs. search needs) returns-2 each-apart-requires
     returns-3)

@@ -11,13 +11,11 @@ use Rattle.id_list.proofs.keep_rules.Tie as tie
 returns : tie.Need-returns
 returns c = refute _ (λ t. let r = ids-rules _ _ _ t in omega arith)
 
-returns-2 : tie.Need-returns-2
-returns-2 c = sym (ids-none _ _ _ (omega arith))
-
 keep-apart-requires : tie.Need-keep-apart-requires
 keep-apart-requires c κs =
     let few = c .before .if1 .left in
     (few, c .before .before .before .pre few)
 
 pub keep-rules-spec : {M : Type 1} → statement M
-keep-rules-spec = tie.close (tie.spec returns returns-2 keep-apart-requires (λ c. search needs))
+keep-rules-spec = tie.close (tie.spec
+    returns (λ c. sym (ids-none _ _ _ (omega arith))) keep-apart-requires (λ c. search needs))

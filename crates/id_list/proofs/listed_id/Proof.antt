@@ -17,9 +17,6 @@ Inv-loop state id count p₀ p = (p ≤ count) × NoneBelow (λ k. sameName (idI
 abbrev μ-loop : tie.MeasureT-loop
 μ-loop state id count p₀ p = count - p
 
-loop-holds : tie.Need-loop-holds Inv-loop μ-loop
-loop-holds c = (omega arith, none-first _)
-
 -- the state's ids keep their rules
 abbrev start : tie.In-loop Inv-loop μ-loop → tie.Start Inv-loop μ-loop
 start c = c .before .before .before .before
@@ -29,24 +26,6 @@ all-rules c = ids-rules _ _ _ (start c .pre)
 
 rules : (c : tie.In-loop Inv-loop μ-loop) → BytesRules (start c .args .state .now) firstIdWord (c .before .loop .p)
 rules c = bytes-rules _ _ _ (id-at _ _ _ _ (all-rules c .each) (c .loop-test .taken))
-
-mul-d : tie.Need-mul-d Inv-loop μ-loop
-mul-d c = omega (arith, all-rules c .few)
-
-add-d : tie.Need-add-d Inv-loop μ-loop
-add-d c = omega (arith, all-rules c .few)
-
-add-n : tie.Need-add-n Inv-loop μ-loop
-add-n c = omega (arith, all-rules c .few)
-
-mul-n : tie.Need-mul-n Inv-loop μ-loop
-mul-n c = omega (arith, all-rules c .few)
-
-element-copy-out-n : tie.Need-element-copy-out-n Inv-loop μ-loop
-element-copy-out-n c = omega (arith, all-rules c .few)
-
-add-has-name : tie.Need-add-has-name Inv-loop μ-loop
-add-has-name c = omega (arith, all-rules (c .before .before) .few)
 
 has-name-requires : tie.Need-has-name-requires Inv-loop μ-loop
 has-name-requires c κs =
@@ -79,22 +58,9 @@ unfolding listedId
 returns-2 c = found-nowhere _ _ _ (c .before .loop .inv .1) (c .loop-test .left)
 
 pub listed-id-spec : {M : Type 1} → statement M
-listed-id-spec =
-    tie.close
-    (tie.spec
-    Inv-loop
-    μ-loop
-    (λ c. omega arith)
-    loop-holds
-    mul-d
-    add-d
-    add-n
-    mul-n
-    element-copy-out-n
-    add-has-name
-    has-name-requires
-    returns
-    add-p
-    (λ c. omega arith)
-    loop-again
-    returns-2)
+listed-id-spec = tie.close (tie.spec
+    Inv-loop μ-loop (λ c. omega arith) (λ c. (omega arith, none-first _)) (λ c. omega (arith, all-rules c .few))
+    (λ c. omega (arith, all-rules c .few)) (λ c. omega (arith, all-rules c .few)) (λ c. omega (arith, all-rules c .few))
+    (λ c. omega (arith, all-rules c .few))
+    (λ c. omega (arith, all-rules (c .before .before) .few))
+    has-name-requires returns add-p (λ c. omega arith) loop-again returns-2)

@@ -6,10 +6,7 @@ use native.Mathlib.Omega.{arith}
 use Rattle.id_list.proofs.major_of.Statement.{statement}
 use Rattle.id_list.proofs.major_of.Tie as tie
 
-returns : tie.Need-returns
-unfolding idIn
-returns c = refl
-
 pub major-of-spec : {M : Type 1} → statement M
-major-of-spec =
-    tie.close (tie.spec (λ c. omega arith) (λ c. omega arith) (λ c. omega arith) (λ c. omega arith) returns)
+unfolding idIn
+major-of-spec = tie.close (tie.spec
+    (λ c. omega arith) (λ c. omega arith) (λ c. omega arith) (λ c. omega arith) (λ c. refl))

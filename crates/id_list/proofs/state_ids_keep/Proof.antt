@@ -5,8 +5,5 @@ use native.Mathlib.Omega.{arith}
 use Rattle.id_list.proofs.state_ids_keep.Statement.{statement}
 use Rattle.id_list.proofs.state_ids_keep.Tie as tie
 
-returns : tie.Need-returns
-returns c = c .keep-rules .ensures
-
 pub state-ids-keep-spec : {M : Type 1} → statement M
-state-ids-keep-spec = tie.close (tie.spec (λ c. omega arith) (λ c κs. search needs) returns)
+state-ids-keep-spec = tie.close (tie.spec (λ c. omega arith) (λ c κs. search needs) (λ c. c .keep-rules .ensures))

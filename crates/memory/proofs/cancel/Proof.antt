@@ -25,19 +25,7 @@ returns-3 : tie.Need-returns-3
 returns-3 c = let e = c .before .before .before in let m = e .before in let t = tested m in cancel-marks _ _ _ _ _ (replied t .put-bare .ensures) (yes _ (t .is-outstanding .ensures) (m .before .before .if1 .left)) (cancelled-is _ (m .is-cancelled .ensures) (e .if2 .left)) (c .before .mark .ensures) (c .cancelled .ensures)
 
 pub cancel-spec : {M : Type 1} → statement M
-cancel-spec =
-    tie.close
-    (tie.spec
-    (λ c κs. search needs)
-    (λ c κs. search needs)
-    (λ c κs. search needs)
-    (λ c. search needs)
-    returns
-    (λ c κs. search needs)
-    (λ c κs. search needs)
-    (λ c. search needs)
-    returns-2
-    mark-requires
-    (λ c κs. search needs)
-    (λ c. search needs)
-    returns-3)
+cancel-spec = tie.close (tie.spec
+    (λ c κs. search needs) (λ c κs. search needs) (λ c κs. search needs) (λ c. search needs) returns
+    (λ c κs. search needs) (λ c κs. search needs) (λ c. search needs) returns-2 mark-requires (λ c κs. search needs)
+    (λ c. search needs) returns-3)

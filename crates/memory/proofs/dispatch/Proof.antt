@@ -18,9 +18,6 @@ hear-unconfigure-requires c κs = let k = formed _ (Unconfigure _) (c .before .b
 query-requires : tie.Need-query-requires
 query-requires c κs = let k = formed _ (Query _) (c .before .before .before .before .before .before .before .pre .2) (c .before .before .before .asked3 .given .1) in (c .before .before .before .before .before .before .before .pre .0, k .0, k .1, omega arith)
 
-enum-told : tie.Need-enum-told
-enum-told c = search needs
-
 returns : tie.Need-returns
 returns c = rw (c .before .before .before .before .before .before .asked .given .1) (c .before .before .hear-configure .ensures)
 
@@ -44,30 +41,9 @@ unfolding requested
 returns-6 c = rw (c .before .before .before .before .enum-told3 .given .1) (c .before .before .error .ensures _)
 
 pub dispatch-spec : {M : Type 1} → statement M
-dispatch-spec =
-    tie.close
-    (tie.spec
-    (λ c. search needs)
-    hear-configure-requires
-    (λ c. search needs)
-    hear-unconfigure-requires
-    (λ c. search needs)
-    query-requires
-    enum-told
-    (λ c κs. search needs)
-    (λ c. search needs)
-    (λ c κs. search needs)
-    (λ c. search needs)
-    (λ c κs. search needs)
-    (λ c. search needs)
-    returns
-    (λ c. search needs)
-    returns-2
-    (λ c. search needs)
-    returns-3
-    (λ c. search needs)
-    returns-4
-    (λ c. search needs)
-    returns-5
-    (λ c. search needs)
+dispatch-spec = tie.close (tie.spec
+    (λ c. search needs) hear-configure-requires (λ c. search needs) hear-unconfigure-requires (λ c. search needs)
+    query-requires (λ c. search needs) (λ c κs. search needs) (λ c. search needs) (λ c κs. search needs)
+    (λ c. search needs) (λ c κs. search needs) (λ c. search needs) returns (λ c. search needs) returns-2
+    (λ c. search needs) returns-3 (λ c. search needs) returns-4 (λ c. search needs) returns-5 (λ c. search needs)
     returns-6)

@@ -20,13 +20,6 @@ unfolding requested pick
 returns-2 c = let t = left c in rw (sym (t .before .is-outstanding .ensures) ∙ t .if1 .left) (c .before .before .configure .ensures)
 
 pub hear-configure-spec : {M : Type 1} → statement M
-hear-configure-spec =
-    tie.close
-    (tie.spec
-    (λ c κs. search needs)
-    (λ c κs. search needs)
-    (λ c. search needs)
-    returns
-    (λ c κs. search needs)
-    (λ c. search needs)
+hear-configure-spec = tie.close (tie.spec
+    (λ c κs. search needs) (λ c κs. search needs) (λ c. search needs) returns (λ c κs. search needs) (λ c. search needs)
     returns-2)

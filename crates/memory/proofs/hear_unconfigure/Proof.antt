@@ -21,6 +21,5 @@ unfolding requested pick
 returns-2 c = let t = left c in rw (sym (t .before .is-outstanding .ensures) ∙ t .if1 .left) (silent-handles _ (c .begin .ensures))
 
 pub hear-unconfigure-spec : {M : Type 1} → statement M
-hear-unconfigure-spec =
-    tie.close
-    (tie.spec (λ c κs. search needs) (λ c κs. search needs) (λ c. search needs) returns (λ c κs. search needs) returns-2)
+hear-unconfigure-spec = tie.close (tie.spec
+    (λ c κs. search needs) (λ c κs. search needs) (λ c. search needs) returns (λ c κs. search needs) returns-2)

@@ -19,10 +19,6 @@ Inv-loop state b n out₀ i₀ out i = (i ≤ n) × (length out ≡ length out�
 abbrev μ-loop : tie.MeasureT-loop
 μ-loop state b n out₀ i₀ out i = n - i
 
-loop-holds : tie.Need-loop-holds Inv-loop μ-loop
-unfolding joined
-loop-holds c = (omega arith, refl, refl)
-
 put-result-requires : tie.Need-put-result-requires Inv-loop μ-loop
 put-result-requires c κs = (omega arith, c .before .before .before .before .before .before .before .pre .0, omega arith)
 
@@ -34,24 +30,11 @@ loop-again c =
     let a = l .before .before .before .args in
     (omega arith, omega arith, result-more _ (λ i. result-length _ _ _ _) _ _ (l .loop .inv .2) (w .put-result .ensures) (pair-same (a .state .now) (a .b .now) (l .loop .i) DR-MEM-RES-BLOCKED (k .before .address .ensures) (k .size .ensures)))
 
-same-length : tie.Need-same-length Inv-loop μ-loop
-same-length c = c .before .loop .inv .1
-
 returns : tie.Need-returns Inv-loop μ-loop
 returns c = let same : c .before .loop .i ≡ c .before .before .before .before .args .n = omega arith in c .before .loop .inv .2 ∙ rw same
 
 pub put-blocked-spec : {M : Type 1} → statement M
-put-blocked-spec =
-    tie.close
-    (tie.spec
-    Inv-loop
-    μ-loop
-    loop-holds
-    (λ c κs. omega arith)
-    (λ c κs. omega arith)
-    put-result-requires
-    (λ c. omega arith)
-    (λ c. omega arith)
-    loop-again
-    same-length
-    returns)
+unfolding joined
+put-blocked-spec = tie.close (tie.spec
+    Inv-loop μ-loop (λ c. (omega arith, refl, refl)) (λ c κs. omega arith) (λ c κs. omega arith) put-result-requires
+    (λ c. omega arith) (λ c. omega arith) loop-again (λ c. c .before .loop .inv .1) returns)

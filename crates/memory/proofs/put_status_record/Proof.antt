@@ -6,14 +6,6 @@ use borrow.Author.Needs.{needs}
 use Rattle.memory.proofs.put_status_record.Statement.{statement}
 use Rattle.memory.proofs.put_status_record.Tie as tie
 
-size-of-requires : tie.Need-size-of-requires
-unfolding removalOf
-size-of-requires c κs = omega arith
-
-mul-put64 : tie.Need-mul-put64
-unfolding removalOf
-mul-put64 c = omega arith
-
 returns : tie.Need-returns
 returns c =
     let s = c .before .before .before .before .before .before .before in
@@ -29,19 +21,8 @@ returns-2 c =
     told-settled _ _ (e .2) (e .0) (p .position-of .ensures) (s .before .before .before .count-of .ensures) (s .before .before .if1 .left) (s .put643 .ensures) (c .before .before .put644 .ensures)
 
 pub put-status-record-spec : {M : Type 1} → statement M
-put-status-record-spec =
-    tie.close
-    (tie.spec
-    (λ c κs. search needs)
-    (λ c κs. search needs)
-    size-of-requires
-    (λ c κs. search needs)
-    (λ c κs. search needs)
-    mul-put64
-    (λ c κs. search needs)
-    (λ c. search needs)
-    returns
-    (λ c κs. search needs)
-    (λ c κs. search needs)
-    (λ c. search needs)
-    returns-2)
+unfolding removalOf
+put-status-record-spec = tie.close (tie.spec
+    (λ c κs. search needs) (λ c κs. search needs) (λ c κs. omega arith) (λ c κs. search needs) (λ c κs. search needs)
+    (λ c. omega arith) (λ c κs. search needs) (λ c. search needs) returns (λ c κs. search needs) (λ c κs. search needs)
+    (λ c. search needs) returns-2)

@@ -24,21 +24,7 @@ returns-2 : tie.Need-returns-2
 returns-2 c = let p = c .before .before .before in let h = headed (p .before) in let s = h .before .before .before .before .before in report-some _ _ _ _ _ (yes _ (h .before .before .before .is-outstanding .ensures) (h .before .before .if1 .left)) (c .answered2 .ensures) (s .pre .1) (h .put-header .ensures) (rw (p .put-status-record .ensures) (part-sets (h .put-header .last .0) (statusRecord (removalOf (s .args .state .now))) replyHeaderBytes statusBytes (status-length (removalOf (s .args .state .now))) (omega arith)))
 
 pub report-spec : {M : Type 1} → statement M
-report-spec =
-    tie.close
-    (tie.spec
-    (λ c κs. search needs)
-    (λ c κs. search needs)
-    (λ c κs. search needs)
-    (λ c. search needs)
-    returns
-    (λ c κs. search needs)
-    (λ c. search needs)
-    (λ c. search needs)
-    (λ c. search needs)
-    (λ c. search needs)
-    put-status-record-requires
-    (λ c. search needs)
-    (λ c κs. search needs)
-    (λ c. search needs)
-    returns-2)
+report-spec = tie.close (tie.spec
+    (λ c κs. search needs) (λ c κs. search needs) (λ c κs. search needs) (λ c. search needs) returns
+    (λ c κs. search needs) (λ c. search needs) (λ c. search needs) (λ c. search needs) (λ c. search needs)
+    put-status-record-requires (λ c. search needs) (λ c κs. search needs) (λ c. search needs) returns-2)

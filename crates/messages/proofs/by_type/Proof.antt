@@ -83,23 +83,6 @@ returns-10 c =
     )
 
 pub by-type-spec : {M : Type 1} → statement M
-by-type-spec =
-    tie.close
-    (tie.spec
-    get32-requires
-    (λ c. search needs)
-    get16-requires
-    (λ c. search needs)
-    returns
-    handle-of-requires
-    get16-requires-2
-    (λ c. search needs)
-    returns-2
-    returns-3
-    returns-4
-    returns-5
-    returns-6
-    returns-7
-    returns-8
-    returns-9
-    returns-10)
+by-type-spec = tie.close (tie.spec
+    get32-requires (λ c. search needs) get16-requires (λ c. search needs) returns handle-of-requires get16-requires-2
+    (λ c. search needs) returns-2 returns-3 returns-4 returns-5 returns-6 returns-7 returns-8 returns-9 returns-10)

@@ -36,11 +36,4 @@ returns-3 c =
 
 pub decode-spec : {M : Type 1} → statement M
 decode-spec =
-    tie.close
-    (tie.spec
-    (λ c κs. search needs)
-    returns
-    payload-fits-requires
-    returns-2
-    by-type-requires
-    returns-3)
+    tie.close (tie.spec (λ c κs. search needs) returns payload-fits-requires returns-2 by-type-requires returns-3)

@@ -38,6 +38,5 @@ returns-4 c =
     c .no-zero .ensures ∙ rw (start .pre .1) (sym (id-last _ (record { low = omega arith; high = omega arith; end = rw (start .pre .1) at zero })))
 
 pub id-fits-spec : {M : Type 1} → statement M
-id-fits-spec =
-    tie.close
-    (tie.spec returns returns-2 (λ c. search needs) shared-slice-read-if3 returns-3 no-zero-requires returns-4)
+id-fits-spec = tie.close (tie.spec
+    returns returns-2 (λ c. search needs) shared-slice-read-if3 returns-3 no-zero-requires returns-4)

@@ -18,9 +18,6 @@ Inv-loop m count i₀ i = (i ≤ count) × ((k : ℕ) → k < i → idByte m k �
 abbrev μ-loop : tie.MeasureT-loop
 μ-loop m count i₀ i = count - i
 
-loop-holds : tie.Need-loop-holds Inv-loop μ-loop
-loop-holds c = (omega arith, below-none _)
-
 returns : tie.Need-returns Inv-loop μ-loop
 returns c =
     let start = c .before .before .before .before in
@@ -39,16 +36,6 @@ returns-2 : tie.Need-returns-2 Inv-loop μ-loop
 returns-2 c = sym (every-make (λ k. idByte (c .before .before .args .m .now) k) _ (λ k h. c .before .loop .inv .1 k (omega arith)))
 
 pub no-zero-spec : {M : Type 1} → statement M
-no-zero-spec =
-    tie.close
-    (tie.spec
-    Inv-loop
-    μ-loop
-    loop-holds
-    (λ c. omega arith)
-    (λ c. omega arith)
-    returns
-    (λ c. omega arith)
-    (λ c. omega arith)
-    loop-again
-    returns-2)
+no-zero-spec = tie.close (tie.spec
+    Inv-loop μ-loop (λ c. (omega arith, below-none _)) (λ c. omega arith) (λ c. omega arith) returns (λ c. omega arith)
+    (λ c. omega arith) loop-again returns-2)

@@ -43,26 +43,9 @@ returns-7 : tie.Need-returns-7
 returns-7 c =
     let c₃ : _ = c .before .before .before in rw (c₃ .get322 .ensures .0) (sym (unreg-fits _ (omega arith) (omega arith)))
 
-returns-8 : tie.Need-returns-8
-returns-8 c = no-type _ (λ e. omega arith) (λ l h. omega arith)
-
-returns-9 : tie.Need-returns-9
-returns-9 c = no-type _ (λ e. omega arith) (λ l h. omega arith)
-
 pub payload-fits-spec : {M : Type 1} → statement M
-payload-fits-spec =
-    tie.close
-    (tie.spec
-    get32-requires
-    (λ c. search needs)
-    get32-requires-2
-    (λ c κs. search needs)
-    returns
-    returns-2
-    returns-3
-    returns-4
-    returns-5
-    returns-6
-    returns-7
-    returns-8
-    returns-9)
+payload-fits-spec = tie.close (tie.spec
+    get32-requires (λ c. search needs) get32-requires-2 (λ c κs. search needs) returns returns-2 returns-3 returns-4
+    returns-5 returns-6 returns-7
+    (λ c. no-type _ (λ e. omega arith) (λ l h. omega arith))
+    (λ c. no-type _ (λ e. omega arith) (λ l h. omega arith)))

@@ -15,8 +15,7 @@ returns c =
     let below : _ = c .shared-slice-known .given (c .before .before .args .i) in
     (byte-at _ _ (omega arith), omega arith)
 
-returns-2 : tie.Need-returns-2
-returns-2 c = (sym (byte-past _ _ (c .if1 .left)), omega arith)
-
 pub byte-or-zero-spec : {M : Type 1} → statement M
-byte-or-zero-spec = tie.close (tie.spec (λ c. omega arith) cast-result returns returns-2)
+byte-or-zero-spec = tie.close (tie.spec
+    (λ c. omega arith) cast-result returns
+    (λ c. (sym (byte-past _ _ (c .if1 .left)), omega arith)))

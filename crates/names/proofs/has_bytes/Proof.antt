@@ -21,9 +21,6 @@ Inv-loop words from n name q₀ q = (q ≤ n) × (every q (λ j. sameBytes (getD
 abbrev μ-loop : tie.MeasureT-loop
 μ-loop words from n name q₀ q = n - q
 
-loop-holds : tie.Need-loop-holds Inv-loop μ-loop
-loop-holds c = (omega arith, every-none _)
-
 returns : tie.Need-returns Inv-loop μ-loop
 returns c =
     let w = c .before in
@@ -44,19 +41,6 @@ returns-2 : tie.Need-returns-2 Inv-loop μ-loop
 returns-2 c = let l = c .before .loop in every-all _ _ _ (l .inv .0) (c .loop-test .left) (l .inv .1)
 
 pub has-bytes-spec : {M : Type 1} → statement M
-has-bytes-spec =
-    tie.close
-    (tie.spec
-    Inv-loop
-    μ-loop
-    loop-holds
-    (λ c. omega arith)
-    (λ c. omega arith)
-    (λ c. omega arith)
-    (λ c. omega arith)
-    (λ c κs. omega arith)
-    returns
-    (λ c. omega arith)
-    (λ c. omega arith)
-    loop-again
-    returns-2)
+has-bytes-spec = tie.close (tie.spec
+    Inv-loop μ-loop (λ c. (omega arith, every-none _)) (λ c. omega arith) (λ c. omega arith) (λ c. omega arith)
+    (λ c. omega arith) (λ c κs. omega arith) returns (λ c. omega arith) (λ c. omega arith) loop-again returns-2)

@@ -6,16 +6,12 @@ use Rattle.names.proofs.Names.{length-differs, same-words}
 use Rattle.names.proofs.has_name.Statement.{statement}
 use Rattle.names.proofs.has_name.Tie as tie
 
-returns : tie.Need-returns
-returns c = length-differs _ _ _ _ (λ e. omega arith)
-
-has-bytes-requires : tie.Need-has-bytes-requires
-has-bytes-requires c κs = (omega arith, omega arith)
-
 returns-2 : tie.Need-returns-2
 returns-2 c =
     let p = c .before .before .before .before .pre in
     c .has-bytes .ensures ∙ same-words _ _ _ (p .0) (p .2) _ (omega arith)
 
 pub has-name-spec : {M : Type 1} → statement M
-has-name-spec = tie.close (tie.spec returns (λ c. omega arith) (λ c. omega arith) has-bytes-requires returns-2)
+has-name-spec = tie.close (tie.spec
+    (λ c. length-differs _ _ _ _ (λ e. omega arith))
+    (λ c. omega arith) (λ c. omega arith) (λ c κs. omega arith) returns-2)

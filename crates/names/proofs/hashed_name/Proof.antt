@@ -36,18 +36,6 @@ returns-4 c = let e = c .before .before .before in
     (c .before .last-word-keeps .ensures ∙ sym (and-next _ _ (sym (passed .0) ∙ eq-eqb _ 0 (e .if3 .left))) ∙ name-words _ _ _ _ (some p) (p .before .if2 .left), λ t. c .mixed .ensures ∙ rw (passed .1, add-one))
 
 pub hashed-name-spec : {M : Type 1} → statement M
-hashed-name-spec =
-    tie.close
-    (tie.spec
-    returns
-    returns-2
-    (λ c. omega arith)
-    (λ c κs. search needs)
-    returns-3
-    (λ c. search needs)
-    (λ c. search needs)
-    (λ c. search needs)
-    (λ c. omega arith)
-    (λ c κs. search needs)
-    (λ c κs. search needs)
-    returns-4)
+hashed-name-spec = tie.close (tie.spec
+    returns returns-2 (λ c. omega arith) (λ c κs. search needs) returns-3 (λ c. search needs) (λ c. search needs)
+    (λ c. search needs) (λ c. omega arith) (λ c κs. search needs) (λ c κs. search needs) returns-4)

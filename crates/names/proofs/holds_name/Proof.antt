@@ -31,15 +31,6 @@ returns-4 c =
     ∙ name-words _ _ _ _ (w .before .before .if1 .left) (w .before .if2 .left)
 
 pub holds-name-spec : {M : Type 1} → statement M
-holds-name-spec =
-    tie.close
-    (tie.spec
-    returns
-    returns-2
-    (λ c κs. omega arith)
-    returns-3
-    (λ c. omega arith)
-    (λ c. omega arith)
-    (λ c. omega arith)
-    (λ c κs. search needs)
-    returns-4)
+holds-name-spec = tie.close (tie.spec
+    returns returns-2 (λ c κs. omega arith) returns-3 (λ c. omega arith) (λ c. omega arith) (λ c. omega arith)
+    (λ c κs. search needs) returns-4)

@@ -12,6 +12,5 @@ returns c =
     omega (arith, number-split (args .b .now) (args .at) 4 4)
 
 pub last-word-spec : {M : Type 1} → statement M
-last-word-spec =
-    tie.close
-    (tie.spec (λ c κs. search needs) (λ c. omega arith) (λ c κs. search needs) (λ c. omega arith) (λ c. omega arith) returns)
+last-word-spec = tie.close (tie.spec
+    (λ c κs. search needs) (λ c. omega arith) (λ c κs. search needs) (λ c. omega arith) (λ c. omega arith) returns)

@@ -14,4 +14,5 @@ returns-2 : tie.Need-returns-2
 returns-2 c = c .zero-bytes .ensures ∙ rest-law _ _ (c .before .before .pre) (omega arith)
 
 pub last-word-keeps-spec : {M : Type 1} → statement M
-last-word-keeps-spec = tie.close (tie.spec (λ c. search needs) (λ c. search needs) returns (λ c κs. search needs) returns-2)
+last-word-keeps-spec =
+    tie.close (tie.spec (λ c. search needs) (λ c. search needs) returns (λ c κs. search needs) returns-2)

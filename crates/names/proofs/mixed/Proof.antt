@@ -5,9 +5,6 @@ use Rattle.names.specs.Hashes.{mixed}
 use Rattle.names.proofs.mixed.Statement.{statement}
 use Rattle.names.proofs.mixed.Tie as tie
 
-returns : tie.Need-returns
-unfolding mixed
-returns c = refl
-
 pub mixed-spec : {M : Type 1} → statement M
-mixed-spec = tie.close (tie.spec returns)
+unfolding mixed
+mixed-spec = tie.close (tie.spec (λ c. refl))

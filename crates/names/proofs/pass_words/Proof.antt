@@ -19,16 +19,6 @@ Inv-loop words from n first zeros₀ hash₀ q₀ zeros hash q = (q ≤ n) × (e
 abbrev μ-loop : tie.MeasureT-loop
 μ-loop words from n first zeros₀ hash₀ q₀ zeros hash q = n - q
 
-loop-holds : tie.Need-loop-holds Inv-loop μ-loop
-unfolding every mixedWords
-loop-holds c = (omega arith, refl, refl)
-
-zero-bytes-requires : tie.Need-zero-bytes-requires Inv-loop μ-loop
-zero-bytes-requires c κs = tt
-
-mixed-requires : tie.Need-mixed-requires Inv-loop μ-loop
-mixed-requires c κs = tt
-
 loop-again : tie.Need-loop-again Inv-loop μ-loop
 unfolding every mixedWords
 loop-again c = let l = c .before .before .before .before .loop in
@@ -41,18 +31,7 @@ returns c = let l = c .before .loop in
     (l .inv .1 ∙ rw past, l .inv .2 ∙ rw past)
 
 pub pass-words-spec : {M : Type 1} → statement M
-pass-words-spec =
-    tie.close
-    (tie.spec
-    Inv-loop
-    μ-loop
-    loop-holds
-    (λ c. omega arith)
-    (λ c. omega arith)
-    (λ c. omega arith)
-    zero-bytes-requires
-    mixed-requires
-    (λ c. omega arith)
-    (λ c. omega arith)
-    loop-again
-    returns)
+unfolding every mixedWords
+pass-words-spec = tie.close (tie.spec
+    Inv-loop μ-loop (λ c. (omega arith, refl, refl)) (λ c. omega arith) (λ c. omega arith) (λ c. omega arith)
+    (λ c κs. omega arith) (λ c κs. omega arith) (λ c. omega arith) (λ c. omega arith) loop-again returns)

@@ -6,16 +6,12 @@ use Rattle.names.proofs.Names.{lengths-differ, pair-words}
 use Rattle.names.proofs.same_names.Statement.{statement}
 use Rattle.names.proofs.same_names.Tie as tie
 
-returns : tie.Need-returns
-returns c = lengths-differ _ _ _ _ _ (λ e. omega arith)
-
-same-words-requires : tie.Need-same-words-requires
-same-words-requires c κs = (omega arith, omega arith)
-
 returns-2 : tie.Need-returns-2
 returns-2 c =
     let p = c .before .before .before .pre in
     c .same-words .ensures ∙ pair-words _ _ _ _ _ (p .0) (p .3) (p .4) (omega arith)
 
 pub same-names-spec : {M : Type 1} → statement M
-same-names-spec = tie.close (tie.spec returns (λ c. omega arith) (λ c. omega arith) same-words-requires returns-2)
+same-names-spec = tie.close (tie.spec
+    (λ c. lengths-differ _ _ _ _ _ (λ e. omega arith))
+    (λ c. omega arith) (λ c. omega arith) (λ c κs. omega arith) returns-2)

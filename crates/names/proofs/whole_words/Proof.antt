@@ -18,13 +18,6 @@ Inv-loop words from n zeros₀ q₀ zeros q = (q ≤ n) × (eqb zeros 0 ≡ ever
 abbrev μ-loop : tie.MeasureT-loop
 μ-loop words from n zeros₀ q₀ zeros q = n - q
 
-loop-holds : tie.Need-loop-holds Inv-loop μ-loop
-unfolding every
-loop-holds c = (omega arith, refl)
-
-zero-bytes-requires : tie.Need-zero-bytes-requires Inv-loop μ-loop
-zero-bytes-requires c κs = tt
-
 loop-again : tie.Need-loop-again Inv-loop μ-loop
 unfolding every
 loop-again c =
@@ -37,17 +30,7 @@ returns c =
     c .before .loop .inv .1 ∙ rw past
 
 pub whole-words-spec : {M : Type 1} → statement M
-whole-words-spec =
-    tie.close
-    (tie.spec
-    Inv-loop
-    μ-loop
-    loop-holds
-    (λ c. omega arith)
-    (λ c. omega arith)
-    (λ c. omega arith)
-    zero-bytes-requires
-    (λ c. omega arith)
-    (λ c. omega arith)
-    loop-again
-    returns)
+unfolding every
+whole-words-spec = tie.close (tie.spec
+    Inv-loop μ-loop (λ c. (omega arith, refl)) (λ c. omega arith) (λ c. omega arith) (λ c. omega arith)
+    (λ c κs. omega arith) (λ c. omega arith) (λ c. omega arith) loop-again returns)

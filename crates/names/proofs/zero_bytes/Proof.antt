@@ -5,11 +5,5 @@ use Rattle.names.proofs.Zeros.{low-most, zeros-law}
 use Rattle.names.proofs.zero_bytes.Statement.{statement}
 use Rattle.names.proofs.zero_bytes.Tie as tie
 
-add-other : tie.Need-add-other
-add-other c = omega (arith, low-most (c .args .w))
-
-returns : tie.Need-returns
-returns c = zeros-law _
-
 pub zero-bytes-spec : {M : Type 1} → statement M
-zero-bytes-spec = tie.close (tie.spec add-other returns)
+zero-bytes-spec = tie.close (tie.spec (λ c. omega (arith, low-most (c .args .w))) (λ c. zeros-law _))

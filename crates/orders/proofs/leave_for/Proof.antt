@@ -14,9 +14,6 @@ shutdown-bytes : {v : ℕ} → v ≡ shutdownService → orderBytes v ≡ shutdo
 unfolding orderBytes pick
 shutdown-bytes e = rw (eq-eqb _ _ e)
 
-get32-requires : tie.Need-get32-requires
-get32-requires c κs = omega (arith, shutdown-bytes (c .if1 .taken))
-
 returns : tie.Need-returns
 unfolding orderingFor pick
 returns c =
@@ -30,14 +27,7 @@ returns-2 c =
     rw (ne-eqb _ _ (c₅ .if1 .left), ← c₅ .before .number-of .ensures) (c .before .before .leave2 .ensures)
 
 pub leave-for-spec : {M : Type 1} → statement M
-leave-for-spec =
-    tie.close
-    (tie.spec
+leave-for-spec = tie.close (tie.spec
     (λ c κs. search needs)
-    get32-requires
-    (λ c κs. search needs)
-    (λ c. search needs)
-    returns
-    (λ c κs. search needs)
-    (λ c. search needs)
-    returns-2)
+    (λ c κs. omega (arith, shutdown-bytes (c .if1 .taken)))
+    (λ c κs. search needs) (λ c. search needs) returns (λ c κs. search needs) (λ c. search needs) returns-2)

@@ -11,5 +11,4 @@ returns c =
     (record { noReply = refl; length′ = refl; notes = c .permitted .ensures; state = c .before .set-permission .ensures })
 
 pub permit-spec : {M : Type 1} → statement M
-permit-spec =
-    tie.close (tie.spec (λ c κs. search needs) (λ c κs. search needs) (λ c κs. search needs) returns)
+permit-spec = tie.close (tie.spec (λ c κs. search needs) (λ c κs. search needs) (λ c κs. search needs) returns)

@@ -6,9 +6,6 @@ use borrow.Author.Needs.{needs}
 use Rattle.orders.proofs.set_order.Statement.{statement}
 use Rattle.orders.proofs.set_order.Tie as tie
 
-returns : tie.Need-returns
-unfolding withOrder
-returns c = refl
-
 pub set-order-spec : {M : Type 1} → statement M
-set-order-spec = tie.close (tie.spec (λ c. search needs) (λ c. search needs) returns)
+unfolding withOrder
+set-order-spec = tie.close (tie.spec (λ c. search needs) (λ c. search needs) (λ c. refl))

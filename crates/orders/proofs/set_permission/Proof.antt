@@ -4,10 +4,7 @@ use borrow.Author.Needs.{needs}
 use Rattle.orders.proofs.set_permission.Statement.{statement}
 use Rattle.orders.proofs.set_permission.Tie as tie
 
-returns : tie.Need-returns
-unfolding withPermission
-returns c = refl
-
 pub set-permission-spec : {M : Type 1} → statement M
-set-permission-spec =
-    tie.close (tie.spec (λ c. search needs) (λ c. search needs) (λ c. search needs) (λ c. search needs) returns)
+unfolding withPermission
+set-permission-spec = tie.close (tie.spec
+    (λ c. search needs) (λ c. search needs) (λ c. search needs) (λ c. search needs) (λ c. refl))

@@ -18,12 +18,6 @@ Inv-loop state channel n₀ p₀ n p = (p ≤ mostIds) × (n ≤ p) × (n ≡ pe
 abbrev μ-loop : tie.MeasureT-loop
 μ-loop state channel n₀ p₀ n p = mostIds - p
 
-loop-holds : tie.Need-loop-holds Inv-loop μ-loop
-loop-holds c = (omega arith, omega arith, sym (none-counted _ _))
-
-mark-of-requires : tie.Need-mark-of-requires Inv-loop μ-loop
-mark-of-requires c κs = (omega arith, omega arith)
-
 add-n : tie.Need-add-n Inv-loop μ-loop
 add-n c =
     let a = c .before .before .before .args in
@@ -41,6 +35,7 @@ returns c =
     c .before .loop .inv .2 ∙ ap (λ (k : ℕ). peersBelow (a .state .now) (a .channel) k) (le-antisymm (c .before .loop .inv .0) (c .loop-test .left))
 
 pub count-spec : {M : Type 1} → statement M
-count-spec =
-    tie.close
-    (tie.spec Inv-loop μ-loop loop-holds mark-of-requires add-n (λ c. omega arith) (λ c. omega arith) loop-again returns)
+count-spec = tie.close (tie.spec
+    Inv-loop μ-loop
+    (λ c. (omega arith, omega arith, sym (none-counted _ _)))
+    (λ c κs. omega arith) add-n (λ c. omega arith) (λ c. omega arith) loop-again returns)

@@ -17,12 +17,6 @@ Inv-loop state channel ready p₀ p = (p ≤ mostIds) × (every p (peerSound sta
 abbrev μ-loop : tie.MeasureT-loop
 μ-loop state channel ready p₀ p = mostIds - p
 
-loop-holds : tie.Need-loop-holds Inv-loop μ-loop
-loop-holds c = (omega arith, every-none _)
-
-peer-sound-requires : tie.Need-peer-sound-requires Inv-loop μ-loop
-peer-sound-requires c κs = (omega arith, omega arith)
-
 returns : tie.Need-returns Inv-loop μ-loop
 returns c = every-fails _ _ _ (c .before .before .loop-test .taken) (no _ (c .before .peer-sound .ensures) (c .if1 .taken))
 
@@ -33,17 +27,6 @@ returns-2 : tie.Need-returns-2 Inv-loop μ-loop
 returns-2 c = every-all _ _ _ (c .before .loop .inv .0) (c .loop-test .left) (c .before .loop .inv .1)
 
 pub each-sound-spec : {M : Type 1} → statement M
-each-sound-spec =
-    tie.close
-    (tie.spec
-    Inv-loop
-    μ-loop
-    (λ c. omega arith)
-    (λ c. omega arith)
-    loop-holds
-    peer-sound-requires
-    returns
-    (λ c. omega arith)
-    (λ c. omega arith)
-    loop-again
-    returns-2)
+each-sound-spec = tie.close (tie.spec
+    Inv-loop μ-loop (λ c. omega arith) (λ c. omega arith) (λ c. (omega arith, every-none _)) (λ c κs. omega arith)
+    returns (λ c. omega arith) (λ c. omega arith) loop-again returns-2)

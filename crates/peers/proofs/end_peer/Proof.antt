@@ -11,13 +11,6 @@ unfolding withoutPeer bitCleared
 returns c = rw (c .marks-of .ensures, own-bit (c .before .before .args .p) (c .before .before .pre .1))
 
 pub end-peer-spec : {M : Type 1} → statement M
-end-peer-spec =
-    tie.close
-    (tie.spec
-    (λ c κs. search needs)
-    (λ c. search needs)
-    (λ c. search needs)
-    (λ c. search needs)
-    (λ c. search needs)
-    (λ c. search needs)
-    returns)
+end-peer-spec = tie.close (tie.spec
+    (λ c κs. search needs) (λ c. search needs) (λ c. search needs) (λ c. search needs) (λ c. search needs)
+    (λ c. search needs) returns)

@@ -15,12 +15,6 @@ Inv-loop state channel handle p₀ p = (p ≤ mostIds) × NoneBelow (peeredAs st
 abbrev μ-loop : tie.MeasureT-loop
 μ-loop state channel handle p₀ p = mostIds - p
 
-loop-holds : tie.Need-loop-holds Inv-loop μ-loop
-loop-holds c = (omega arith, none-first _)
-
-peered-as-requires : tie.Need-peered-as-requires Inv-loop μ-loop
-peered-as-requires c κs = (omega arith, omega arith)
-
 returns : tie.Need-returns Inv-loop μ-loop
 returns c =
     found-here _ _ _ (c .before .before .before .loop .inv .1) (c .before .before .loop-test .taken)
@@ -34,15 +28,6 @@ returns-2 : tie.Need-returns-2 Inv-loop μ-loop
 returns-2 c = found-nowhere _ _ _ (c .before .loop .inv .1) (c .loop-test .left)
 
 pub find-peer-spec : {M : Type 1} → statement M
-find-peer-spec =
-    tie.close
-    (tie.spec
-    Inv-loop
-    μ-loop
-    loop-holds
-    peered-as-requires
-    returns
-    (λ c. omega arith)
-    (λ c. omega arith)
-    loop-again
-    returns-2)
+find-peer-spec = tie.close (tie.spec
+    Inv-loop μ-loop (λ c. (omega arith, none-first _)) (λ c κs. omega arith) returns (λ c. omega arith)
+    (λ c. omega arith) loop-again returns-2)

@@ -20,23 +20,8 @@ Inv-loop state channel p handle j₀ j = (j ≤ p) × (every j (λ k. eqb (peere
 abbrev μ-loop : tie.MeasureT-loop
 μ-loop state channel p handle j₀ j = p - j
 
-mark-of-requires : tie.Need-mark-of-requires Inv-loop μ-loop
-mark-of-requires c κs = (omega arith, omega arith)
-
 returns : tie.Need-returns Inv-loop μ-loop
 returns c e = apart-unmarked _ _ _ (sym (c .before .mark-of .ensures) ∙ c .if1 .taken)
-
-handle-of-requires : tie.Need-handle-of-requires Inv-loop μ-loop
-handle-of-requires c κs = (omega arith, omega arith)
-
-loop-holds : tie.Need-loop-holds Inv-loop μ-loop
-loop-holds c = (omega arith, every-none _)
-
-handle-of-requires-2 : tie.Need-handle-of-requires-2 Inv-loop μ-loop
-handle-of-requires-2 c κs = (omega arith, omega arith)
-
-returns-2 : tie.Need-returns-2 Inv-loop μ-loop
-returns-2 c e = absurd (clash false refl e)
 
 loop-again : tie.Need-loop-again Inv-loop μ-loop
 loop-again c =
@@ -49,18 +34,7 @@ returns-3 c e =
     ∙ sym (every-all _ _ _ (c .before .loop .inv .0) (c .loop-test .left) (c .before .loop .inv .1))
 
 pub handle-alone-spec : {M : Type 1} → statement M
-handle-alone-spec =
-    tie.close
-    (tie.spec
-    Inv-loop
-    μ-loop
-    mark-of-requires
-    returns
-    handle-of-requires
-    loop-holds
-    handle-of-requires-2
-    returns-2
-    (λ c. omega arith)
-    (λ c. omega arith)
-    loop-again
+handle-alone-spec = tie.close (tie.spec
+    Inv-loop μ-loop (λ c κs. omega arith) returns (λ c κs. omega arith) (λ c. (omega arith, every-none _))
+    (λ c κs. omega arith) (λ c e. absurd (clash false refl e)) (λ c. omega arith) (λ c. omega arith) loop-again
     returns-3)

@@ -5,9 +5,6 @@ use borrow.Author.Needs.{needs}
 use Rattle.peers.proofs.has_handle.Statement.{statement}
 use Rattle.peers.proofs.has_handle.Tie as tie
 
-enum-told : tie.Need-enum-told
-enum-told c = search needs
-
 returns : tie.Need-returns
 unfolding isFound
 returns c = rw (← c .before .before .find-peer .ensures, c .enum-told .given .1)
@@ -17,4 +14,4 @@ unfolding isFound
 returns-2 c = rw (← c .before .before .find-peer .ensures, c .enum-told2 .given .1)
 
 pub has-handle-spec : {M : Type 1} → statement M
-has-handle-spec = tie.close (tie.spec (λ c κs. search needs) enum-told (λ c. search needs) returns returns-2)
+has-handle-spec = tie.close (tie.spec (λ c κs. search needs) (λ c. search needs) (λ c. search needs) returns returns-2)

@@ -4,8 +4,5 @@ use borrow.Author.Needs.{needs}
 use Rattle.peers.proofs.is_peered.Statement.{statement}
 use Rattle.peers.proofs.is_peered.Tie as tie
 
-returns : tie.Need-returns
-returns c = rw (← c .mark-of .ensures)
-
 pub is-peered-spec : {M : Type 1} → statement M
-is-peered-spec = tie.close (tie.spec (λ c κs. search needs) returns)
+is-peered-spec = tie.close (tie.spec (λ c κs. search needs) (λ c. rw (← c .mark-of .ensures)))

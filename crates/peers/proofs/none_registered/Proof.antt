@@ -18,9 +18,6 @@ Inv-loop state none₀ c₀ none c = (c ≤ channelCount) × (none ≡ true → 
 abbrev μ-loop : tie.MeasureT-loop
 μ-loop state none₀ c₀ none c = channelCount - c
 
-loop-holds : tie.Need-loop-holds Inv-loop μ-loop
-loop-holds c = (omega arith, λ _ i h. absurd (omega arith))
-
 -- one channel more
 next : (f : ℕ → ℕ → ℕ) (n : ℕ) → ((i : ℕ) → i < n → (p : ℕ) → f i p ≡ 0) → ((p : ℕ) → f n p ≡ 0) → (i : ℕ) → i < n + 1 → (p : ℕ) → f i p ≡ 0
 next f n before here i h p = go (eqb i n) refl
@@ -45,14 +42,7 @@ returns c =
     λ t i h. c .before .loop .inv .1 t i (omega arith)
 
 pub none-registered-spec : {M : Type 1} → statement M
-none-registered-spec =
-    tie.close
-    (tie.spec
-    Inv-loop
-    μ-loop
-    loop-holds
-    (λ c κs. omega arith)
-    (λ c. omega arith)
-    (λ c. omega arith)
-    loop-again
-    returns)
+none-registered-spec = tie.close (tie.spec
+    Inv-loop μ-loop
+    (λ c. (omega arith, λ _ i h. absurd (omega arith)))
+    (λ c κs. omega arith) (λ c. omega arith) (λ c. omega arith) loop-again returns)

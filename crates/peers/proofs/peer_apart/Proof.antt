@@ -19,24 +19,12 @@ Inv-loop state channel p handle q₀ q = (q ≤ p) × (every q (λ k. eqb (peere
 abbrev μ-loop : tie.MeasureT-loop
 μ-loop state channel p handle q₀ q = p - q
 
-mark-of-requires : tie.Need-mark-of-requires Inv-loop μ-loop
-mark-of-requires c κs = (omega arith, omega arith)
-
 returns : tie.Need-returns Inv-loop μ-loop
 returns c = sym (apart-unmarked _ _ _ (sym (c .before .mark-of .ensures) ∙ c .if1 .taken))
-
-handle-of-requires : tie.Need-handle-of-requires Inv-loop μ-loop
-handle-of-requires c κs = (omega arith, omega arith)
 
 -- past the first test
 marked : (c : tie.After-handle-of Inv-loop μ-loop) → every (c .before .before .before .args .p) (λ q. eqb (peeredAt (c .before .before .before .args .state .now) (c .before .before .before .args .channel) q) 0 or not (eqb (peerHandleAt (c .before .before .before .args .state .now) (c .before .before .before .args .channel) q) (c .handle-of .result))) ≡ peerApart (c .before .before .before .args .state .now) (c .before .before .before .args .channel) (c .before .before .before .args .p)
 marked c = sym (apart-marked _ _ _ _ (c .handle-of .ensures) (λ e. c .before .if1 .left (c .before .before .mark-of .ensures ∙ e)))
-
-loop-holds : tie.Need-loop-holds Inv-loop μ-loop
-loop-holds c = (omega arith, every-none _)
-
-differs-requires : tie.Need-differs-requires Inv-loop μ-loop
-differs-requires c κs = (omega arith, omega arith)
 
 returns-2 : tie.Need-returns-2 Inv-loop μ-loop
 returns-2 c =
@@ -50,18 +38,6 @@ returns-3 c =
     every-all _ _ _ (c .before .loop .inv .0) (c .loop-test .left) (c .before .loop .inv .1) ∙ marked (c .before .before)
 
 pub peer-apart-spec : {M : Type 1} → statement M
-peer-apart-spec =
-    tie.close
-    (tie.spec
-    Inv-loop
-    μ-loop
-    mark-of-requires
-    returns
-    handle-of-requires
-    loop-holds
-    differs-requires
-    returns-2
-    (λ c. omega arith)
-    (λ c. omega arith)
-    loop-again
-    returns-3)
+peer-apart-spec = tie.close (tie.spec
+    Inv-loop μ-loop (λ c κs. omega arith) returns (λ c κs. omega arith) (λ c. (omega arith, every-none _))
+    (λ c κs. omega arith) returns-2 (λ c. omega arith) (λ c. omega arith) loop-again returns-3)

@@ -40,20 +40,7 @@ unfolding idIn
 returns-5 c = rw (c .before .minor-of .ensures) (sym (minor-left _ _ _ _ (all (c .before .before))))
 
 pub peer-sound-spec : {M : Type 1} → statement M
-peer-sound-spec =
-    tie.close
-    (tie.spec
-    (λ c κs. search needs)
-    returns
-    returns-2
-    (λ c. search needs)
-    returns-3
-    (λ c κs. search needs)
-    returns-4
-    (λ c κs. search needs)
-    (λ c. search needs)
-    (λ c. search needs)
-    (λ c. search needs)
-    (λ c. search needs)
-    (λ c. search needs)
-    returns-5)
+peer-sound-spec = tie.close (tie.spec
+    (λ c κs. search needs) returns returns-2 (λ c. search needs) returns-3 (λ c κs. search needs) returns-4
+    (λ c κs. search needs) (λ c. search needs) (λ c. search needs) (λ c. search needs) (λ c. search needs)
+    (λ c. search needs) returns-5)

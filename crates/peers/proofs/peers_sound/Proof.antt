@@ -32,14 +32,6 @@ returns-4 c =
     (sym (count-left _ _ _ (each (c .before .before .before)) (yes _ (c .before .before .handles-apart .ensures) (c .before .if3 .left))))
 
 pub peers-sound-spec : {M : Type 1} → statement M
-peers-sound-spec =
-    tie.close
-    (tie.spec
-    (λ c κs. search needs)
-    returns
-    (λ c κs. search needs)
-    returns-2
-    (λ c κs. search needs)
-    returns-3
-    (λ c κs. search needs)
-    returns-4)
+peers-sound-spec = tie.close (tie.spec
+    (λ c κs. search needs) returns (λ c κs. search needs) returns-2 (λ c κs. search needs) returns-3
+    (λ c κs. search needs) returns-4)

@@ -17,12 +17,6 @@ Inv-loop state channel p₀ p = (p ≤ mostIds) × (every p (peerApart state cha
 abbrev μ-loop : tie.MeasureT-loop
 μ-loop state channel p₀ p = mostIds - p
 
-loop-holds : tie.Need-loop-holds Inv-loop μ-loop
-loop-holds c = (omega arith, every-none _)
-
-peer-apart-requires : tie.Need-peer-apart-requires Inv-loop μ-loop
-peer-apart-requires c κs = (omega arith, omega arith)
-
 returns : tie.Need-returns Inv-loop μ-loop
 returns c = every-fails _ _ _ (c .before .before .loop-test .taken) (no _ (c .before .peer-apart .ensures) (c .if1 .taken))
 
@@ -33,15 +27,6 @@ returns-2 : tie.Need-returns-2 Inv-loop μ-loop
 returns-2 c = every-all _ _ _ (c .before .loop .inv .0) (c .loop-test .left) (c .before .loop .inv .1)
 
 pub registered-apart-spec : {M : Type 1} → statement M
-registered-apart-spec =
-    tie.close
-    (tie.spec
-    Inv-loop
-    μ-loop
-    loop-holds
-    peer-apart-requires
-    returns
-    (λ c. omega arith)
-    (λ c. omega arith)
-    loop-again
-    returns-2)
+registered-apart-spec = tie.close (tie.spec
+    Inv-loop μ-loop (λ c. (omega arith, every-none _)) (λ c κs. omega arith) returns (λ c. omega arith)
+    (λ c. omega arith) loop-again returns-2)

@@ -14,17 +14,8 @@ keeps c = sound-block _ _ (c .pre .0) (c .pre .1)
 few : (c : tie.Start) → c .args .i < mostBlocks
 few c = let k = sound-facts _ (c .pre .0) .base .few in omega (arith, c .pre .1)
 
-permanent-of-requires : tie.Need-permanent-of-requires
-permanent-of-requires c κs = few c
-
 mul-bytes : tie.Need-mul-bytes
 mul-bytes c = let k = keeps (c .before) in omega (arith, k .within, k .few, c .permanent-of .ensures)
-
-base-of-requires : tie.Need-base-of-requires
-base-of-requires c κs = few (c .before)
-
-first-of-requires : tie.Need-first-of-requires
-first-of-requires c κs = few (c .before .before)
 
 mul-first : tie.Need-mul-first
 mul-first c = let k = keeps (c .before .before .before) in omega (arith, k .within, k .few, c .first-of .ensures)
@@ -37,13 +28,5 @@ unfolding permanentBytes permanentFirst
 returns c = λ addr size. record { bytes = omega (arith, c .before .before .permanent-of .ensures); first = omega (arith, c .first-of .ensures, c .before .base-of .ensures) }
 
 pub permanent-at-spec : {M : Type 1} → statement M
-permanent-at-spec =
-    tie.close
-    (tie.spec
-    permanent-of-requires
-    mul-bytes
-    base-of-requires
-    first-of-requires
-    mul-first
-    add-first
-    returns)
+permanent-at-spec = tie.close (tie.spec
+    (λ c κs. few c) mul-bytes (λ c κs. few (c .before)) (λ c κs. few (c .before .before)) mul-first add-first returns)

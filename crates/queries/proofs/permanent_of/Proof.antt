@@ -6,14 +6,8 @@ use borrow.Author.Needs.{needs}
 use Rattle.queries.proofs.permanent_of.Statement.{statement}
 use Rattle.queries.proofs.permanent_of.Tie as tie
 
-named-block-requires : tie.Need-named-block-requires
-named-block-requires c κs = sound-in-order _ (c .pre)
-
 permanent-at-requires : tie.Need-permanent-at-requires
 permanent-at-requires c κs = (c .before .before .before .before .pre, named-less _ _ _ _ (sym (c .before .before .before .named-block .ensures) ∙ c .before .found .given .1))
-
-enum-told : tie.Need-enum-told
-enum-told c = search needs
 
 returns : tie.Need-returns
 returns c = rw (← c .before .before .before .before .named-block .ensures, c .before .before .found .given .1) (c .permanent-at .ensures _ _)
@@ -23,12 +17,5 @@ unfolding permanentBytes permanentFirst
 returns-2 c = rw (← c .before .before .named-block .ensures, c .enum-told .given .1) (record { bytes = refl; first = refl })
 
 pub permanent-of-spec : {M : Type 1} → statement M
-permanent-of-spec =
-    tie.close
-    (tie.spec
-    named-block-requires
-    (λ c. search needs)
-    permanent-at-requires
-    enum-told
-    returns
-    returns-2)
+permanent-of-spec = tie.close (tie.spec
+    (λ c κs. sound-in-order _ (c .pre)) (λ c. search needs) permanent-at-requires (λ c. search needs) returns returns-2)

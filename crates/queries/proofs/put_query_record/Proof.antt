@@ -15,12 +15,6 @@ returns c =
     query-stored _ _ _ _ (f .before .before .before .before .pre .1) (r .bytes, r .first) (f .put64 .ensures) (c .before .before .before .before .before .before .put642 .ensures) (c .before .before .put-range .ensures)
 
 pub put-query-record-spec : {M : Type 1} → statement M
-put-query-record-spec =
-    tie.close
-    (tie.spec
-    (λ c κs. search needs)
-    (λ c κs. search needs)
-    (λ c κs. search needs)
-    (λ c κs. search needs)
-    (λ c. search needs)
+put-query-record-spec = tie.close (tie.spec
+    (λ c κs. search needs) (λ c κs. search needs) (λ c κs. search needs) (λ c κs. search needs) (λ c. search needs)
     returns)

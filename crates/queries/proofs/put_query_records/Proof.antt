@@ -19,10 +19,6 @@ Inv-loop state b n out₀ i₀ out i = (i ≤ n) × (length out ≡ length out�
 abbrev μ-loop : tie.MeasureT-loop
 μ-loop state b n out₀ i₀ out i = n - i
 
-loop-holds : tie.Need-loop-holds Inv-loop μ-loop
-unfolding joined
-loop-holds c = (omega arith, refl, refl)
-
 put-query-record-requires : tie.Need-put-query-record-requires Inv-loop μ-loop
 put-query-record-requires c κs = (c .before .before .before .before .before .before .before .pre .0, simp (length-take, length-drop) (omega arith))
 
@@ -33,32 +29,14 @@ loop-again c =
     let span : replyHeaderBytes + l .i * queryBytes + queryBytes - (replyHeaderBytes + l .i * queryBytes) ≡ queryBytes = omega arith in
     (omega arith, omega arith, record-more _ queryBytes (λ i. query-length _ _ _) _ _ _ _ _ (l .inv .2) (c .before .before .put-query-record .ensures ∙ rw (c .before .before .before .before .before .address .ensures, c .before .before .before .before .size .ensures)) span fits)
 
-same-length : tie.Need-same-length Inv-loop μ-loop
-same-length c = c .before .loop .inv .1
-
 returns : tie.Need-returns Inv-loop μ-loop
 returns c =
     let same : c .before .loop .i ≡ c .before .before .before .before .args .n = omega arith in
     c .before .loop .inv .2 ∙ rw same
 
 pub put-query-records-spec : {M : Type 1} → statement M
-put-query-records-spec =
-    tie.close
-    (tie.spec
-    Inv-loop
-    μ-loop
-    loop-holds
-    (λ c κs. omega arith)
-    (λ c κs. omega arith)
-    (λ c. omega arith)
-    (λ c. omega arith)
-    (λ c. omega arith)
-    (λ c. omega arith)
-    (λ c. omega arith)
-    (λ c. omega arith)
-    put-query-record-requires
-    (λ c. omega arith)
-    (λ c. omega arith)
-    loop-again
-    same-length
-    returns)
+unfolding joined
+put-query-records-spec = tie.close (tie.spec
+    Inv-loop μ-loop (λ c. (omega arith, refl, refl)) (λ c κs. omega arith) (λ c κs. omega arith) (λ c. omega arith)
+    (λ c. omega arith) (λ c. omega arith) (λ c. omega arith) (λ c. omega arith) (λ c. omega arith)
+    put-query-record-requires (λ c. omega arith) (λ c. omega arith) loop-again (λ c. c .before .loop .inv .1) returns)

@@ -11,15 +11,6 @@ returns : tie.Need-returns
 returns c = let q = c .before .before .before in query-handles _ _ _ _ _ _ _ (omega arith) (omega arith) (c .answered .ensures) (headed q .put-header .ensures) (q .put-query-records .ensures)
 
 pub query-spec : {M : Type 1} → statement M
-query-spec =
-    tie.close
-    (tie.spec
-    (λ c. search needs)
-    (λ c. search needs)
-    (λ c κs. search needs)
-    (λ c κs. search needs)
-    (λ c. search needs)
-    (λ c. search needs)
-    (λ c κs. search needs)
-    (λ c. search needs)
-    returns)
+query-spec = tie.close (tie.spec
+    (λ c. search needs) (λ c. search needs) (λ c κs. search needs) (λ c κs. search needs) (λ c. search needs)
+    (λ c. search needs) (λ c κs. search needs) (λ c. search needs) returns)

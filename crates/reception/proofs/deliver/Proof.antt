@@ -11,9 +11,6 @@ use borrow.Author.Needs.{needs}
 use Rattle.reception.proofs.deliver.Statement.{statement}
 use Rattle.reception.proofs.deliver.Tie as tie
 
-enum-told : tie.Need-enum-told
-enum-told c = search needs
-
 abbrev start : tie.After-enum-told3 → tie.Start
 start c = c .before .before .before .before .before
 
@@ -41,22 +38,7 @@ unfolding dataFor routed written
 returns-4 c = let t = c .before in rw (sym (t .before .before .route .ensures) ∙ t .enum-told4 .given .1) (record { length′ = refl; notes = c .delivered .ensures; state = refl; output = refl })
 
 pub deliver-spec : {M : Type 1} → statement M
-deliver-spec =
-    tie.close
-    (tie.spec
-    (λ c κs. search needs)
-    enum-told
-    (λ c κs. search needs)
-    (λ c. search needs)
-    (λ c κs. search needs)
-    (λ c. search needs)
-    answer-requires-3
-    (λ c. search needs)
-    (λ c κs. search needs)
-    (λ c. search needs)
-    returns
-    (λ c. search needs)
-    returns-2
-    (λ c. search needs)
-    returns-3
-    returns-4)
+deliver-spec = tie.close (tie.spec
+    (λ c κs. search needs) (λ c. search needs) (λ c κs. search needs) (λ c. search needs) (λ c κs. search needs)
+    (λ c. search needs) answer-requires-3 (λ c. search needs) (λ c κs. search needs) (λ c. search needs) returns
+    (λ c. search needs) returns-2 (λ c. search needs) returns-3 returns-4)

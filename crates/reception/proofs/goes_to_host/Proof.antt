@@ -4,18 +4,12 @@ use borrow.Author.Needs.{needs}
 use Rattle.reception.proofs.goes_to_host.Statement.{statement}
 use Rattle.reception.proofs.goes_to_host.Tie as tie
 
-enum-told : tie.Need-enum-told
-enum-told c = search needs
-
 returns : tie.Need-returns
 unfolding goesToHost
 returns c = rw (c .before .before .before .found .given .1) (c .is-host .ensures ∙ ap isHost (c .before .route .ensures))
 
-returns-2 : tie.Need-returns-2
-unfolding goesToHost
-returns-2 c = rw (c .enum-told .given .1)
-
 pub goes-to-host-spec : {M : Type 1} → statement M
-goes-to-host-spec =
-    tie.close
-    (tie.spec (λ c. search needs) (λ c κs. search needs) (λ c κs. search needs) enum-told returns returns-2)
+unfolding goesToHost
+goes-to-host-spec = tie.close (tie.spec
+    (λ c. search needs) (λ c κs. search needs) (λ c κs. search needs) (λ c. search needs) returns
+    (λ c. rw (c .enum-told .given .1)))

@@ -7,9 +7,6 @@ use borrow.Author.Needs.{needs}
 use Rattle.reception.proofs.hear.Statement.{statement}
 use Rattle.reception.proofs.hear.Tie as tie
 
-enum-told : tie.Need-enum-told
-enum-told c = search needs
-
 register-peer-requires : tie.Need-register-peer-requires
 register-peer-requires c κs =
     let s = c .before .before .before .before .before .before in
@@ -59,41 +56,10 @@ unfolding heard
 returns-10 c = rw (c .before .before .enum-told5 .given .1) (silent-handles _ (c .close .ensures))
 
 pub hear-spec : {M : Type 1} → statement M
-hear-spec =
-    tie.close
-    (tie.spec
-    (λ c. search needs)
-    (λ c κs. search needs)
-    enum-told
-    register-peer-requires
-    (λ c. search needs)
-    (λ c κs. search needs)
-    (λ c. search needs)
-    (λ c κs. search needs)
-    (λ c. search needs)
-    (λ c κs. search needs)
-    (λ c. search needs)
-    (λ c κs. search needs)
-    (λ c. search needs)
-    (λ c κs. search needs)
-    (λ c. search needs)
-    payload-requires
-    (λ c κs. search needs)
-    (λ c. search needs)
-    (λ c κs. search needs)
-    (λ c. search needs)
-    (λ c κs. search needs)
-    (λ c. search needs)
-    returns
-    (λ c. search needs)
-    returns-2
-    returns-3
-    returns-4
-    (λ c. search needs)
-    returns-5
-    returns-6
-    returns-7
-    (λ c. search needs)
-    returns-8
-    returns-9
-    returns-10)
+hear-spec = tie.close (tie.spec
+    (λ c. search needs) (λ c κs. search needs) (λ c. search needs) register-peer-requires (λ c. search needs)
+    (λ c κs. search needs) (λ c. search needs) (λ c κs. search needs) (λ c. search needs) (λ c κs. search needs)
+    (λ c. search needs) (λ c κs. search needs) (λ c. search needs) (λ c κs. search needs) (λ c. search needs)
+    payload-requires (λ c κs. search needs) (λ c. search needs) (λ c κs. search needs) (λ c. search needs)
+    (λ c κs. search needs) (λ c. search needs) returns (λ c. search needs) returns-2 returns-3 returns-4
+    (λ c. search needs) returns-5 returns-6 returns-7 (λ c. search needs) returns-8 returns-9 returns-10)

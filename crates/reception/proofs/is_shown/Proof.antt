@@ -16,15 +16,13 @@ start c = c .before .before
 test-of : (c : tie.After-goes-to-host) (b : Bool) → c .goes-to-host .result ≡ b → goesToHost (registeredFor (start c .args .state .now) (start c .args .channel) (start c .args .handle)) ≡ b
 test-of c b e = sym (c .goes-to-host .ensures ∙ ap goesToHost (c .before .find-staged .ensures)) ∙ e
 
-returns : tie.Need-returns
-unfolding _or_
-returns c = rw (test-of (c .before) true (c .if1 .taken))
-
 returns-2 : tie.Need-returns-2
 unfolding _or_
 returns-2 c = rw (test-of (c .before .before) false (c .before .if1 .left)) (c .has-handle .ensures)
 
 pub is-shown-spec : {M : Type 1} → statement M
-is-shown-spec =
-    tie.close
-    (tie.spec (λ c κs. search needs) (λ c κs. search needs) returns (λ c κs. search needs) returns-2)
+unfolding _or_
+is-shown-spec = tie.close (tie.spec
+    (λ c κs. search needs) (λ c κs. search needs)
+    (λ c. rw (test-of (c .before) true (c .if1 .taken)))
+    (λ c κs. search needs) returns-2)

@@ -8,10 +8,6 @@ returns : tie.Need-returns
 unfolding toHost
 returns c = rw (c .before .before .message .given .1) (c .is-shown .ensures)
 
-returns-2 : tie.Need-returns-2
-returns-2 c = others-stay _ _ _ (c .match .keys2)
-
 pub is-to-host-spec : {M : Type 1} → statement M
-is-to-host-spec =
-    tie.close
-    (tie.spec (λ c. search needs) (λ c κs. search needs) returns returns-2)
+is-to-host-spec = tie.close (tie.spec
+    (λ c. search needs) (λ c κs. search needs) returns (λ c. others-stay _ _ _ (c .match .keys2)))

@@ -14,14 +14,6 @@ unfolding receiving pick
 returns-2 c = rw (← c .before .before .before .before .decode .ensures, ← c .before .before .before .before .before .is-ready .ensures, ← c .before .before .before .hears .ensures, c .before .before .if1 .left) (silent-handles _ (c .close .ensures))
 
 pub take-spec : {M : Type 1} → statement M
-take-spec =
-    tie.close
-    (tie.spec
-    (λ c κs. search needs)
-    (λ c κs. search needs)
-    (λ c κs. search needs)
-    (λ c κs. search needs)
-    (λ c. search needs)
-    returns
-    (λ c κs. search needs)
-    returns-2)
+take-spec = tie.close (tie.spec
+    (λ c κs. search needs) (λ c κs. search needs) (λ c κs. search needs) (λ c κs. search needs) (λ c. search needs)
+    returns (λ c κs. search needs) returns-2)

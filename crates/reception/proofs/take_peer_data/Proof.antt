@@ -16,9 +16,6 @@ start c = c .before .before
 found-of : (c : tie.After-find-peer) (x : Found) → c .find-peer .result ≡ x → peerFor (start c .args .state .now) (start c .args .channel) (start c .args .handle) ≡ x
 found-of c x e = sym (c .find-peer .ensures) ∙ e
 
-enum-told : tie.Need-enum-told
-enum-told c = search needs
-
 returns : tie.Need-returns
 unfolding peerData written
 returns c =
@@ -31,14 +28,6 @@ returns-2 c =
     rw (found-of (t .before .before) _ (t .enum-told2 .given .1)) (c .before .before .refuse-data .ensures)
 
 pub take-peer-data-spec : {M : Type 1} → statement M
-take-peer-data-spec =
-    tie.close
-    (tie.spec
-    (λ c κs. search needs)
-    enum-told
-    (λ c κs. search needs)
-    (λ c. search needs)
-    (λ c κs. search needs)
-    returns
-    (λ c. search needs)
-    returns-2)
+take-peer-data-spec = tie.close (tie.spec
+    (λ c κs. search needs) (λ c. search needs) (λ c κs. search needs) (λ c. search needs) (λ c κs. search needs) returns
+    (λ c. search needs) returns-2)

@@ -17,16 +17,6 @@ returns c =
     rw (c .before .before .put642 .ensures, c₆ .put324 .ensures, c₁₀ .put323 .ensures, c₁₄ .put64 .ensures, c₁₈ .put322 .ensures, c₂₂ .put32 .ensures)
 
 pub put-header-spec : {M : Type 1} → statement M
-put-header-spec =
-    tie.close
-    (tie.spec
-    (λ c κs. search needs)
-    (λ c. search needs)
-    (λ c. search needs)
-    (λ c κs. search needs)
-    (λ c κs. search needs)
-    (λ c κs. search needs)
-    (λ c κs. search needs)
-    (λ c κs. search needs)
-    (λ c. search needs)
-    returns)
+put-header-spec = tie.close (tie.spec
+    (λ c κs. search needs) (λ c. search needs) (λ c. search needs) (λ c κs. search needs) (λ c κs. search needs)
+    (λ c κs. search needs) (λ c κs. search needs) (λ c κs. search needs) (λ c. search needs) returns)

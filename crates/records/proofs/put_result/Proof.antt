@@ -19,16 +19,6 @@ returns c =
     record-put resultBytes _ _ (resultRecord (a .state .now) (a .addr) (a .size) (a .result)) _ _ (c .before .before .put-result-record .ensures ∙ rw (e .status-of .ensures)) (result-length _ _ _ _) span (omega arith)
 
 pub put-result-spec : {M : Type 1} → statement M
-put-result-spec =
-    tie.close
-    (tie.spec
-    (λ c κs. search needs)
-    (λ c. search needs)
-    (λ c. search needs)
-    (λ c. search needs)
-    (λ c. search needs)
-    (λ c. search needs)
-    (λ c. search needs)
-    (λ c κs. search needs)
-    (λ c. search needs)
-    returns)
+put-result-spec = tie.close (tie.spec
+    (λ c κs. search needs) (λ c. search needs) (λ c. search needs) (λ c. search needs) (λ c. search needs)
+    (λ c. search needs) (λ c. search needs) (λ c κs. search needs) (λ c. search needs) returns)

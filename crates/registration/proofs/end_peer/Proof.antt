@@ -21,9 +21,6 @@ end-requires c κs =
     let f = c .before .before .before in
     (omega arith, first-facts mostIds _ _ (found-of (f .before .before) _ (f .found .given .1)) .below, omega arith)
 
-enum-told : tie.Need-enum-told
-enum-told c = omega arith
-
 returns : tie.Need-returns
 returns c = let f = c .before .before .before .before .before .before in rw (found-of (f .before .before) _ (f .found .given .1)) (c .before .before .end .ensures)
 
@@ -31,15 +28,6 @@ returns-2 : tie.Need-returns-2
 returns-2 c = let f = c .before .before .before .before .before in rw (found-of (f .before .before) _ (f .enum-told .given .1)) (c .before .before .refuse-end .ensures)
 
 pub end-peer-spec : {M : Type 1} → statement M
-end-peer-spec =
-    tie.close
-    (tie.spec
-    (λ c κs. omega arith)
-    (λ c. omega arith)
-    end-requires
-    enum-told
-    (λ c κs. omega arith)
-    (λ c. omega arith)
-    returns
-    (λ c. omega arith)
-    returns-2)
+end-peer-spec = tie.close (tie.spec
+    (λ c κs. omega arith) (λ c. omega arith) end-requires (λ c. omega arith) (λ c κs. omega arith) (λ c. omega arith)
+    returns (λ c. omega arith) returns-2)

@@ -32,5 +32,4 @@ returns-3 c =
     ∙ sym (by-count (a .state .now) (a .channel) (a .handle) (low e1) (sym (e2 .before .has-handle .ensures) ∙ e2 .if2 .left))
 
 pub is-refused-spec : {M : Type 1} → statement M
-is-refused-spec =
-    tie.close (tie.spec returns (λ c κs. omega arith) returns-2 (λ c κs. omega arith) returns-3)
+is-refused-spec = tie.close (tie.spec returns (λ c κs. omega arith) returns-2 (λ c κs. omega arith) returns-3)

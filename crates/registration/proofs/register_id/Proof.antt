@@ -22,20 +22,7 @@ returns-2 c =
     rw (right-major _ _ _ _ _ _ _ (a .before .get64 .ensures) (a .get16 .ensures .0) (o .major-of .ensures) _ _ _ (i .if1 .left) (m .highest-minor-of .ensures) (l .before .get162 .ensures .0) (l .lower .ensures)) (c .before .before .accept .ensures)
 
 pub register-id-spec : {M : Type 1} → statement M
-register-id-spec =
-    tie.close
-    (tie.spec
-    (λ c κs. omega arith)
-    (λ c κs. omega arith)
-    (λ c κs. omega arith)
-    (λ c κs. omega arith)
-    (λ c κs. omega arith)
-    (λ c. omega arith)
-    returns
-    (λ c κs. omega arith)
-    (λ c κs. omega arith)
-    (λ c κs. omega arith)
-    (λ c. omega arith)
-    (λ c κs. omega arith)
-    (λ c. omega arith)
-    returns-2)
+register-id-spec = tie.close (tie.spec
+    (λ c κs. omega arith) (λ c κs. omega arith) (λ c κs. omega arith) (λ c κs. omega arith) (λ c κs. omega arith)
+    (λ c. omega arith) returns (λ c κs. omega arith) (λ c κs. omega arith) (λ c κs. omega arith) (λ c. omega arith)
+    (λ c κs. omega arith) (λ c. omega arith) returns-2)

@@ -26,14 +26,6 @@ returns-2 c =
     rw (pick-false _ _ _ (test-of (i .before) false (i .if1 .left))) (c .before .before .register-id .ensures)
 
 pub register-listed-spec : {M : Type 1} → statement M
-register-listed-spec =
-    tie.close
-    (tie.spec
-    (λ c κs. omega arith)
-    (λ c κs. omega arith)
-    (λ c κs. omega arith)
-    (λ c. omega arith)
-    returns
-    (λ c κs. omega arith)
-    (λ c. omega arith)
-    returns-2)
+register-listed-spec = tie.close (tie.spec
+    (λ c κs. omega arith) (λ c κs. omega arith) (λ c κs. omega arith) (λ c. omega arith) returns (λ c κs. omega arith)
+    (λ c. omega arith) returns-2)

@@ -40,9 +40,6 @@ register-listed-requires c κs =
     let s = start (f .before .before .before) in
     (omega arith, place-less _ _ _ (sound-facts _ (s .pre .0) .ids) (found-of (f .before .before) _ (f .found .given .1)), omega arith, omega arith)
 
-enum-told : tie.Need-enum-told
-enum-told c = omega arith
-
 returns-2 : tie.Need-returns-2
 returns-2 c =
     let f = c .before .before .before .before .before .before in
@@ -56,21 +53,7 @@ returns-3 c =
     rw (unlisted _ _ _ _ (handle-of (l .before)) (not-refused (l .before)) (found-of l _ (f .enum-told .given .1))) (c .before .before .refuse2 .ensures _)
 
 pub register-peer-spec : {M : Type 1} → statement M
-register-peer-spec =
-    tie.close
-    (tie.spec
-    (λ c κs. omega arith)
-    (λ c κs. search needs)
-    (λ c κs. omega arith)
-    (λ c. omega arith)
-    returns
-    (λ c κs. omega arith)
-    listed-id-requires
-    (λ c. omega arith)
-    register-listed-requires
-    enum-told
-    (λ c κs. omega arith)
-    (λ c. omega arith)
-    returns-2
-    (λ c. omega arith)
-    returns-3)
+register-peer-spec = tie.close (tie.spec
+    (λ c κs. omega arith) (λ c κs. search needs) (λ c κs. omega arith) (λ c. omega arith) returns (λ c κs. omega arith)
+    listed-id-requires (λ c. omega arith) register-listed-requires (λ c. omega arith) (λ c κs. omega arith)
+    (λ c. omega arith) returns-2 (λ c. omega arith) returns-3)

@@ -6,10 +6,6 @@ use borrow.Author.Needs.{needs}
 use Rattle.removal.proofs.collect.Statement.{statement}
 use Rattle.removal.proofs.collect.Tie as tie
 
-add-if1 : tie.Need-add-if1
-unfolding removalOf
-add-if1 c = omega (arith, c .before .before .pages-of .ensures)
-
 settle-requires : tie.Need-settle-requires
 settle-requires c κs = let g = c .before in let p = g .before .before .before .before .before .before .before .pre in (held-kept _ _ (p .1) (g .set-configured .ensures) (p .0), rw (removal-kept _ _ (p .1) (g .set-configured .ensures)) (p .2), p .1)
 
@@ -22,16 +18,9 @@ unfolding removalOf
 returns-2 c = let t = c .before .before .before .before .before in let k = t .before in collects-some _ _ _ (λ e. t .if1 .left (omega (arith, k .collected-of .ensures, k .before .before .pages-of .ensures))) (c .before .add-pages .ensures) (c .before .before .before .channel-of .ensures) (c .collected .ensures)
 
 pub collect-spec : {M : Type 1} → statement M
-collect-spec =
-    tie.close
-    (tie.spec
-    (λ c κs. search needs)
-    (λ c κs. search needs)
-    add-if1
-    (λ c κs. search needs)
-    settle-requires
-    returns
-    (λ c κs. search needs)
-    (λ c κs. search needs)
-    (λ c κs. search needs)
+unfolding removalOf
+collect-spec = tie.close (tie.spec
+    (λ c κs. search needs) (λ c κs. search needs)
+    (λ c. omega (arith, c .before .before .pages-of .ensures))
+    (λ c κs. search needs) settle-requires returns (λ c κs. search needs) (λ c κs. search needs) (λ c κs. search needs)
     returns-2)

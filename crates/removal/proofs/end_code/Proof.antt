@@ -25,14 +25,6 @@ unfolding removalOf
 returns-3 c = let t = c .before .before .before .before .before in let s = t .before .before .args .state .now in c .failing-code .ensures ∙ ap failingCode (c .before .block-now .ensures) ∙ sym (code-failing s (removalOf s) (cancelled-is s (t .before .is-cancelled .ensures) (t .if1 .left)) (omega arith))
 
 pub end-code-spec : {M : Type 1} → statement M
-end-code-spec =
-    tie.close
-    (tie.spec
-    (λ c κs. search needs)
-    returns
-    (λ c κs. search needs)
-    (λ c κs. search needs)
-    returns-2
-    block-now-requires
-    (λ c κs. search needs)
-    returns-3)
+end-code-spec = tie.close (tie.spec
+    (λ c κs. search needs) returns (λ c κs. search needs) (λ c κs. search needs) returns-2 block-now-requires
+    (λ c κs. search needs) returns-3)

@@ -15,18 +15,7 @@ returns-2 : tie.Need-returns-2
 returns-2 c = let t = c .before .before .before in let q = asked (t .before) in ends-silent _ _ _ (channel-is _ (q .before .before .channel-of .ensures)) (request-is _ (q .request-of .ensures)) (sym (t .before .still-registered .ensures) ∙ t .if1 .left) (q .before .before .before .before .end-code .ensures) (c .removal-end2 .ensures) (c .before .clear-removal2 .ensures)
 
 pub end-removal-spec : {M : Type 1} → statement M
-end-removal-spec =
-    tie.close
-    (tie.spec
-    (λ c κs. search needs)
-    (λ c κs. search needs)
-    (λ c κs. search needs)
-    (λ c κs. search needs)
-    (λ c κs. search needs)
-    (λ c κs. search needs)
-    (λ c κs. search needs)
-    (λ c. search needs)
-    returns
-    (λ c κs. search needs)
-    (λ c κs. search needs)
-    returns-2)
+end-removal-spec = tie.close (tie.spec
+    (λ c κs. search needs) (λ c κs. search needs) (λ c κs. search needs) (λ c κs. search needs) (λ c κs. search needs)
+    (λ c κs. search needs) (λ c κs. search needs) (λ c. search needs) returns (λ c κs. search needs)
+    (λ c κs. search needs) returns-2)

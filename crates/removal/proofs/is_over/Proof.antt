@@ -14,5 +14,4 @@ returns-2 c = rw (cancelled-is _ (c .before .before .before .is-cancelled .ensur
 
 pub is-over-spec : {M : Type 1} → statement M
 is-over-spec =
-    tie.close
-    (tie.spec (λ c κs. search needs) returns (λ c κs. search needs) (λ c κs. search needs) returns-2)
+    tie.close (tie.spec (λ c κs. search needs) returns (λ c κs. search needs) (λ c κs. search needs) returns-2)

@@ -18,10 +18,6 @@ Inv-loop state code n out₀ i₀ out i = (i ≤ n) × (length out ≡ length ou
 abbrev μ-loop : tie.MeasureT-loop
 μ-loop state code n out₀ i₀ out i = n - i
 
-loop-holds : tie.Need-loop-holds Inv-loop μ-loop
-unfolding joined
-loop-holds c = (omega arith, refl, refl)
-
 result-at-requires : tie.Need-result-at-requires Inv-loop μ-loop
 result-at-requires c κs = (omega arith, c .before .before .before .before .before .pre .2)
 
@@ -35,25 +31,11 @@ loop-again c =
     let l = r .before .before .before .before in
     (omega arith, omega arith, result-more _ (λ i. result-length _ _ _ _) _ _ (l .loop .inv .2) (w .put-result .ensures) (late-record (l .before .before .args .state .now) (l .loop .i) (omega arith) (r .before .before .address-of .ensures) (r .before .size-of .ensures) (r .result-at .ensures)))
 
-same-length : tie.Need-same-length Inv-loop μ-loop
-same-length c = c .before .loop .inv .1
-
 returns : tie.Need-returns Inv-loop μ-loop
 returns c = let same : c .before .loop .i ≡ c .before .before .before .args .n = omega arith in c .before .loop .inv .2 ∙ rw same
 
 pub put-late-records-spec : {M : Type 1} → statement M
-put-late-records-spec =
-    tie.close
-    (tie.spec
-    Inv-loop
-    μ-loop
-    loop-holds
-    (λ c κs. omega arith)
-    (λ c κs. omega arith)
-    result-at-requires
-    put-result-requires
-    (λ c. omega arith)
-    (λ c. omega arith)
-    loop-again
-    same-length
-    returns)
+unfolding joined
+put-late-records-spec = tie.close (tie.spec
+    Inv-loop μ-loop (λ c. (omega arith, refl, refl)) (λ c κs. omega arith) (λ c κs. omega arith) result-at-requires
+    put-result-requires (λ c. omega arith) (λ c. omega arith) loop-again (λ c. c .before .loop .inv .1) returns)

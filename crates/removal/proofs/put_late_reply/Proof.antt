@@ -19,13 +19,6 @@ returns : tie.Need-returns
 returns c = let h = c .before .before .before .before .before .before in let q = h .before .before in let p = q .before .before .before .before .pre in late-written _ _ (count-is _ (q .before .before .count-of .ensures)) (handle-is _ (q .before .handle-of .ensures)) (request-is _ (q .request-of .ensures)) (p .0 .records) (p .2) (h .put-results-header .ensures) (c .before .before .put-late-records .ensures)
 
 pub put-late-reply-spec : {M : Type 1} → statement M
-put-late-reply-spec =
-    tie.close
-    (tie.spec
-    (λ c κs. search needs)
-    (λ c κs. search needs)
-    (λ c κs. search needs)
-    put-results-header-requires
-    put-late-records-requires
-    (λ c. search needs)
-    returns)
+put-late-reply-spec = tie.close (tie.spec
+    (λ c κs. search needs) (λ c κs. search needs) (λ c κs. search needs) put-results-header-requires
+    put-late-records-requires (λ c. search needs) returns)

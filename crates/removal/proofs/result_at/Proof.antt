@@ -16,13 +16,5 @@ returns-4 : tie.Need-returns-4
 returns-4 c = let t = c .before .before .before in result-after _ _ (t .before .position-of .ensures) (t .if1 .left) (c .before .before .is-cancelled .ensures) (c .before .if2 .left) (c .if3 .left)
 
 pub result-at-spec : {M : Type 1} → statement M
-result-at-spec =
-    tie.close
-    (tie.spec
-    (λ c κs. search needs)
-    (λ c κs. search needs)
-    returns
-    (λ c κs. search needs)
-    returns-2
-    returns-3
-    returns-4)
+result-at-spec = tie.close (tie.spec
+    (λ c κs. search needs) (λ c κs. search needs) returns (λ c κs. search needs) returns-2 returns-3 returns-4)

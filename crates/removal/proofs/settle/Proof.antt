@@ -16,5 +16,4 @@ returns c = record { noReply = refl; length′ = refl; notes = c .settled .ensur
 
 pub settle-spec : {M : Type 1} → statement M
 settle-spec =
-    tie.close
-    (tie.spec (λ c κs. search needs) (λ c κs. search needs) (λ c κs. search needs) settled-requires returns)
+    tie.close (tie.spec (λ c κs. search needs) (λ c κs. search needs) (λ c κs. search needs) settled-requires returns)

@@ -22,14 +22,6 @@ returns-2 : tie.Need-returns-2
 returns-2 c = let t = c .before .before .before .before .before .before .before in step-found _ _ _ (sym (t .before .is-over .ensures) ∙ t .if1 .left) (c .before .before .before .before .before .block-now .ensures) (c .before .before .work-found .ensures)
 
 pub step-spec : {M : Type 1} → statement M
-step-spec =
-    tie.close
-    (tie.spec
-    (λ c κs. search needs)
-    end-step-requires
-    (λ c. search needs)
-    returns
-    block-now-requires
-    work-found-requires
-    (λ c. search needs)
-    returns-2)
+step-spec = tie.close (tie.spec
+    (λ c κs. search needs) end-step-requires (λ c. search needs) returns block-now-requires work-found-requires
+    (λ c. search needs) returns-2)

@@ -17,12 +17,5 @@ returns-2 : tie.Need-returns-2
 returns-2 c = let t = c .before .before in at-movable _ _ _ _ _ (sym (t .before .permanent-of .ensures) ∙ t .if1 .left) refl (c .work-on .ensures)
 
 pub work-at-spec : {M : Type 1} → statement M
-work-at-spec =
-    tie.close
-    (tie.spec
-    permanent-of-requires
-    (λ c κs. search needs)
-    (λ c. search needs)
-    returns
-    work-on-requires
-    returns-2)
+work-at-spec = tie.close (tie.spec
+    permanent-of-requires (λ c κs. search needs) (λ c. search needs) returns work-on-requires returns-2)

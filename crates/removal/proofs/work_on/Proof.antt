@@ -23,14 +23,6 @@ returns-2 : tie.Need-returns-2
 returns-2 c = let g = c .before .before in let k = g .before in let b = k .before .before in let t = b .before .before in works-collects _ _ _ _ _ (λ e. t .if1 .left (t .before .configured-of .ensures ∙ e)) (b .pages-of .ensures) (collected-is _ (k .collected-of .ensures)) (g .pages-moved .ensures) (c .collect .ensures)
 
 pub work-on-spec : {M : Type 1} → statement M
-work-on-spec =
-    tie.close
-    (tie.spec
-    (λ c κs. search needs)
-    (λ c κs. search needs)
-    returns
-    (λ c κs. search needs)
-    (λ c κs. search needs)
-    pages-moved-requires
-    collect-requires
-    returns-2)
+work-on-spec = tie.close (tie.spec
+    (λ c κs. search needs) (λ c κs. search needs) returns (λ c κs. search needs) (λ c κs. search needs)
+    pages-moved-requires collect-requires returns-2)

@@ -10,5 +10,4 @@ unfolding removalOf
 returns c = let p = c .before .before .pre in sym (marked-words _ (c .word-count .ensures .1) (p .0) (p .1))
 
 pub mark-spec : {M : Type 1} → statement M
-mark-spec =
-    tie.close (tie.spec (λ c κs. search needs) (λ c. search needs) (λ c. search needs) returns)
+mark-spec = tie.close (tie.spec (λ c κs. search needs) (λ c. search needs) (λ c. search needs) returns)

@@ -17,12 +17,6 @@ Inv-loop state₀ word b n at i₀ state i = (i ≤ mostRecords) × (state ≡ s
 abbrev μ-loop : tie.MeasureT-loop
 μ-loop state₀ word b n at i₀ state i = mostRecords - i
 
-loop-holds : tie.Need-loop-holds Inv-loop μ-loop
-loop-holds c = (omega arith, refl)
-
-number-of-requires : tie.Need-number-of-requires Inv-loop μ-loop
-number-of-requires c κs = (omega arith, omega arith, omega arith)
-
 loop-again : tie.Need-loop-again Inv-loop μ-loop
 loop-again c =
     let l = c .before .before .loop in
@@ -40,17 +34,6 @@ returns c =
     l .inv .1 ∙ sets-done _ (tabulate f mostRecords) (a .word) (l .i) (omega arith)
 
 pub put-column-spec : {M : Type 1} → statement M
-put-column-spec =
-    tie.close
-    (tie.spec
-    Inv-loop
-    μ-loop
-    loop-holds
-    number-of-requires
-    (λ c. omega arith)
-    (λ c. omega arith)
-    (λ c. omega arith)
-    (λ c. omega arith)
-    (λ c. omega arith)
-    loop-again
-    returns)
+put-column-spec = tie.close (tie.spec
+    Inv-loop μ-loop (λ c. (omega arith, refl)) (λ c κs. omega arith) (λ c. omega arith) (λ c. omega arith)
+    (λ c. omega arith) (λ c. omega arith) (λ c. omega arith) loop-again returns)

@@ -6,9 +6,6 @@ use borrow.Author.Needs.{needs}
 use Rattle.requests.proofs.decode.Statement.{statement}
 use Rattle.requests.proofs.decode.Tie as tie
 
-returns : tie.Need-returns
-returns c = short-is _ (c .if1 .taken)
-
 returns-2 : tie.Need-returns-2
 unfolding pick
 returns-2 c = status-is _ (c .before .before .before .before .if1 .left) _ (c .before .before .before .get32 .ensures .0) (c .before .before .if2 .taken) true (sym (c .if3 .taken) ∙ c .before .has-nothing .ensures)
@@ -26,17 +23,6 @@ unfolding pick
 returns-5 c = cancel-is _ (c .before .before .before .before .before .if1 .left) _ (c .before .before .before .before .get32 .ensures .0) (c .before .before .if4 .taken) false (sym (c .if5 .left) ∙ c .before .has-nothing2 .ensures)
 
 pub decode-spec : {M : Type 1} → statement M
-decode-spec =
-    tie.close
-    (tie.spec
-    returns
-    (λ c κs. search needs)
-    (λ c. search needs)
-    (λ c κs. search needs)
-    returns-2
-    returns-3
-    (λ c κs. search needs)
-    returns-4
-    returns-5
-    (λ c κs. search needs)
-    (λ c. search needs))
+decode-spec = tie.close (tie.spec
+    (λ c. short-is _ (c .if1 .taken)) (λ c κs. search needs) (λ c. search needs) (λ c κs. search needs) returns-2
+    returns-3 (λ c κs. search needs) returns-4 returns-5 (λ c κs. search needs) (λ c. search needs))

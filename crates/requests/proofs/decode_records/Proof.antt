@@ -21,5 +21,4 @@ returns-5 c = let p = c .before .before .before .before .before .before .before 
 
 pub decode-records-spec : {M : Type 1} → statement M
 decode-records-spec =
-    tie.close
-    (tie.spec (λ c κs. search needs) returns (λ c κs. search needs) returns-2 returns-3 returns-4 returns-5)
+    tie.close (tie.spec (λ c κs. search needs) returns (λ c κs. search needs) returns-2 returns-3 returns-4 returns-5)

@@ -9,9 +9,8 @@ returns : tie.Need-returns
 unfolding hasNothing _and_
 returns c = rw (← c .before .get32 .ensures .0, ne-eqb _ _ (c .if1 .taken))
 
-returns-2 : tie.Need-returns-2
-unfolding hasNothing _and_
-returns-2 c = rw (← c .before .get32 .ensures .0, c .if1 .left)
-
 pub has-nothing-spec : {M : Type 1} → statement M
-has-nothing-spec = tie.close (tie.spec (λ c κs. search needs) returns returns-2)
+unfolding hasNothing _and_
+has-nothing-spec = tie.close (tie.spec
+    (λ c κs. search needs) returns
+    (λ c. rw (← c .before .get32 .ensures .0, c .if1 .left)))

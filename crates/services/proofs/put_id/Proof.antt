@@ -17,9 +17,6 @@ Inv-loop out₀ at id count i₀ out i = (i ≤ count) × (length out ≡ length
 abbrev μ-loop : tie.MeasureT-loop
 μ-loop out₀ at id count i₀ out i = count - i
 
-loop-holds : tie.Need-loop-holds Inv-loop μ-loop
-loop-holds c = (search needs, refl, refl)
-
 loop-again : tie.Need-loop-again Inv-loop μ-loop
 loop-again c =
     let inv = c .before .loop .inv in
@@ -28,26 +25,12 @@ loop-again c =
     let below : c .before .loop .i < length (start .args .row .id) = omega arith in
     (omega arith, rw length-set (inv .1), sets-more _ (start .args .row .id) _ _ below (inv .2))
 
-same-length : tie.Need-same-length Inv-loop μ-loop
-same-length c = c .before .loop .inv .1
-
 returns : tie.Need-returns Inv-loop μ-loop
 returns c =
     let past : c .before .loop .i ≡ c .before .before .before .args .row .length = omega arith in
     c .before .loop .inv .2 ∙ rw past
 
 pub put-id-spec : {M : Type 1} → statement M
-put-id-spec =
-    tie.close
-    (tie.spec
-    Inv-loop
-    μ-loop
-    loop-holds
-    (λ c. omega arith)
-    (λ c. omega arith)
-    (λ c. omega arith)
-    (λ c. omega arith)
-    (λ c. omega arith)
-    loop-again
-    same-length
-    returns)
+put-id-spec = tie.close (tie.spec
+    Inv-loop μ-loop (λ c. (search needs, refl, refl)) (λ c. omega arith) (λ c. omega arith) (λ c. omega arith)
+    (λ c. omega arith) (λ c. omega arith) loop-again (λ c. c .before .loop .inv .1) returns)

@@ -5,9 +5,6 @@ use Rattle.model.specs.Messages.{initAck}
 use Rattle.services.proofs.put_init_ack.Statement.{statement}
 use Rattle.services.proofs.put_init_ack.Tie as tie
 
-returns : tie.Need-returns
-unfolding initAck
-returns c = search needs
-
 pub put-init-ack-spec : {M : Type 1} → statement M
-put-init-ack-spec = tie.close (tie.spec (λ c κs. search needs) (λ c. search needs) returns)
+unfolding initAck
+put-init-ack-spec = tie.close (tie.spec (λ c κs. search needs) (λ c. search needs) (λ c. search needs))

@@ -5,9 +5,6 @@ use Rattle.model.specs.Messages.{initNack}
 use Rattle.services.proofs.put_init_nack.Statement.{statement}
 use Rattle.services.proofs.put_init_nack.Tie as tie
 
-returns : tie.Need-returns
-unfolding initNack
-returns c = search needs
-
 pub put-init-nack-spec : {M : Type 1} → statement M
-put-init-nack-spec = tie.close (tie.spec (λ c κs. search needs) (λ c. search needs) returns)
+unfolding initNack
+put-init-nack-spec = tie.close (tie.spec (λ c κs. search needs) (λ c. search needs) (λ c. search needs))

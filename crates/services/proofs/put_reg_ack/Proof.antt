@@ -17,4 +17,5 @@ returns c =
     message-stored _ 10 _ _ refl refl (omega arith) (rw (c .before .before .put16 .ensures, c₆ .put64 .ensures, c₁₀ .put-header .ensures))
 
 pub put-reg-ack-spec : {M : Type 1} → statement M
-put-reg-ack-spec = tie.close (tie.spec (λ c κs. search needs) (λ c κs. search needs) (λ c κs. search needs) (λ c. search needs) returns)
+put-reg-ack-spec = tie.close (tie.spec
+    (λ c κs. search needs) (λ c κs. search needs) (λ c κs. search needs) (λ c. search needs) returns)

@@ -22,15 +22,6 @@ returns c =
     (rw (← read .ensures .same, c .before .before .put-row .ensures, c₆ .put64 .ensures, c₁₀ .put-header .ensures))
 
 pub put-reg-req-spec : {M : Type 1} → statement M
-put-reg-req-spec =
-    tie.close
-    (tie.spec
-    (λ c κs. search needs)
-    (λ c. search needs)
-    (λ c. search needs)
-    (λ c κs. search needs)
-    (λ c κs. search needs)
-    (λ c κs. search needs)
-    (λ c. search needs)
-    (λ c. search needs)
-    returns)
+put-reg-req-spec = tie.close (tie.spec
+    (λ c κs. search needs) (λ c. search needs) (λ c. search needs) (λ c κs. search needs) (λ c κs. search needs)
+    (λ c κs. search needs) (λ c. search needs) (λ c. search needs) returns)

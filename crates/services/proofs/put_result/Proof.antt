@@ -13,5 +13,5 @@ returns c =
     rw (c .before .before .put642 .ensures, c₆ .put64 .ensures, c₁₀ .put-header .ensures)
 
 pub put-result-spec : {M : Type 1} → statement M
-put-result-spec =
-    tie.close (tie.spec (λ c κs. search needs) (λ c κs. search needs) (λ c κs. search needs) (λ c. search needs) returns)
+put-result-spec = tie.close (tie.spec
+    (λ c κs. search needs) (λ c κs. search needs) (λ c κs. search needs) (λ c. search needs) returns)

@@ -5,9 +5,6 @@ use Rattle.model.specs.Messages.{unregAck}
 use Rattle.services.proofs.put_unreg_ack.Statement.{statement}
 use Rattle.services.proofs.put_unreg_ack.Tie as tie
 
-returns : tie.Need-returns
-unfolding unregAck
-returns c = search needs
-
 pub put-unreg-ack-spec : {M : Type 1} → statement M
-put-unreg-ack-spec = tie.close (tie.spec (λ c κs. search needs) (λ c. search needs) returns)
+unfolding unregAck
+put-unreg-ack-spec = tie.close (tie.spec (λ c κs. search needs) (λ c. search needs) (λ c. search needs))

@@ -5,9 +5,6 @@ use Rattle.model.specs.Messages.{unregNack}
 use Rattle.services.proofs.put_unreg_nack.Statement.{statement}
 use Rattle.services.proofs.put_unreg_nack.Tie as tie
 
-returns : tie.Need-returns
-unfolding unregNack
-returns c = search needs
-
 pub put-unreg-nack-spec : {M : Type 1} → statement M
-put-unreg-nack-spec = tie.close (tie.spec (λ c κs. search needs) (λ c. search needs) returns)
+unfolding unregNack
+put-unreg-nack-spec = tie.close (tie.spec (λ c κs. search needs) (λ c. search needs) (λ c. search needs))

@@ -4,10 +4,6 @@ use Rattle.model.specs.Messages.{route}
 use Rattle.services.proofs.route.Statement.{statement}
 use Rattle.services.proofs.route.Tie as tie
 
-returns : tie.Need-returns
-unfolding route pick
-returns c = rw (eq-eqb _ _ (c .if1 .taken))
-
 returns-2 : tie.Need-returns-2
 unfolding route pick
 returns-2 c = rw (ne-eqb _ _ (c .before .if1 .left), eq-eqb _ _ (c .if2 .taken))
@@ -37,4 +33,5 @@ returns-5 c =
     )
 
 pub route-spec : {M : Type 1} → statement M
-route-spec = tie.close (tie.spec returns returns-2 returns-3 returns-4 returns-5)
+unfolding route pick
+route-spec = tie.close (tie.spec (λ c. rw (eq-eqb _ _ (c .if1 .taken))) returns-2 returns-3 returns-4 returns-5)

@@ -10,9 +10,6 @@ use Rattle.vio_rules.proofs.Laws.{ignores}
 use Rattle.vio_rules.proofs.answered.Statement.{statement}
 use Rattle.vio_rules.proofs.answered.Tie as tie
 
-session-of-requires : tie.Need-session-of-requires
-session-of-requires c κs = sound-facts _ (c .before .pre) .size
-
 returns : tie.Need-returns
 unfolding endOf
 returns c = let a = c .before .before .before .args in
@@ -27,6 +24,5 @@ returns-2 c = let d = c .before .before in
     ∙ ap (λ (s : Session). answered (endOf (a .end .now)) (a .next) s (a .m)) (sym (d .session .given .1) ∙ d .before .before .session-of .ensures)
 
 pub answered-spec : {M : Type 1} → statement M
-answered-spec =
-    tie.close
-    (tie.spec session-of-requires (λ c. search needs) returns (λ c κs. search needs) returns-2)
+answered-spec = tie.close (tie.spec
+    (λ c κs. sound-facts _ (c .before .pre) .size) (λ c. search needs) returns (λ c κs. search needs) returns-2)

@@ -11,10 +11,6 @@ use Rattle.vio_model.specs.Rules.{answersOpen}
 use Rattle.vio_rules.proofs.answers_open.Statement.{statement}
 use Rattle.vio_rules.proofs.answers_open.Tie as tie
 
-returns : tie.Need-returns
-unfolding answersOpen pick _and_
-returns c = rw (ne-eqb _ _ (c .if1 .taken))
-
 shared-slice-read-if2 : tie.Need-shared-slice-read-if2
 shared-slice-read-if2 c = let f = sound-facts _ (c .before .before .before .before .pre) in omega arith
 
@@ -40,16 +36,7 @@ returns-5 c = let e = c .before in
     rw (eq-eqb _ _ (d .before .before .before .if1 .left), eq-eqb _ _ (d .if2 .left), sym (e .before .before .is-version .ensures) ∙ e .before .if3 .left, sym (e .is-version2 .ensures) ∙ c .if4 .left)
 
 pub answers-open-spec : {M : Type 1} → statement M
-answers-open-spec =
-    tie.close
-    (tie.spec
-    returns
-    shared-slice-read-if2
-    returns-2
-    (λ c κs. search needs)
-    (λ c κs. search needs)
-    returns-3
-    (λ c κs. search needs)
-    (λ c κs. search needs)
-    returns-4
-    returns-5)
+unfolding answersOpen pick _and_
+answers-open-spec = tie.close (tie.spec
+    (λ c. rw (ne-eqb _ _ (c .if1 .taken))) shared-slice-read-if2 returns-2 (λ c κs. search needs) (λ c κs. search needs)
+    returns-3 (λ c κs. search needs) (λ c κs. search needs) returns-4 returns-5)

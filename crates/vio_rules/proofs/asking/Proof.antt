@@ -22,13 +22,6 @@ returns-2 c = let d = c .before .before .before in
     (c .before .before .minor-of .ensures) (c .message .ensures)
 
 pub asking-spec : {M : Type 1} → statement M
-asking-spec =
-    tie.close
-    (tie.spec
-    versions-of-requires
-    (λ c κs. search needs)
-    returns
-    (λ c κs. search needs)
-    shared-slice-read-message
-    (λ c κs. search needs)
-    returns-2)
+asking-spec = tie.close (tie.spec
+    versions-of-requires (λ c κs. search needs) returns (λ c κs. search needs) shared-slice-read-message
+    (λ c κs. search needs) returns-2)

@@ -16,5 +16,4 @@ unfolding heard pick
 returns-2 c = rw (sym (c .before .before .is-version .ensures) ∙ c .before .if1 .left) (c .answered .ensures)
 
 pub heard-spec : {M : Type 1} → statement M
-heard-spec =
-    tie.close (tie.spec (λ c κs. search needs) (λ c κs. search needs) returns (λ c κs. search needs) returns-2)
+heard-spec = tie.close (tie.spec (λ c κs. search needs) (λ c κs. search needs) returns (λ c κs. search needs) returns-2)

@@ -5,13 +5,7 @@ use Rattle.model.specs.Choice.{_and_}
 use Rattle.vio_rules.proofs.is_unchanged.Statement.{statement}
 use Rattle.vio_rules.proofs.is_unchanged.Tie as tie
 
-returns : tie.Need-returns
-unfolding _and_
-returns c = rw (ne-eqb _ _ (c .if1 .taken))
-
-returns-2 : tie.Need-returns-2
-unfolding _and_
-returns-2 c = rw (eq-eqb _ _ (c .before .if1 .left))
-
 pub is-unchanged-spec : {M : Type 1} → statement M
-is-unchanged-spec = tie.close (tie.spec returns returns-2)
+unfolding _and_
+is-unchanged-spec = tie.close (tie.spec
+    (λ c. rw (ne-eqb _ _ (c .if1 .taken))) (λ c. rw (eq-eqb _ _ (c .before .if1 .left))))

@@ -5,9 +5,6 @@ use Rattle.vio_model.specs.Rules.{message}
 use Rattle.vio_rules.proofs.message.Statement.{statement}
 use Rattle.vio_rules.proofs.message.Tie as tie
 
-returns : tie.Need-returns
-unfolding message
-returns c = refl
-
 pub message-spec : {M : Type 1} → statement M
-message-spec = tie.close (tie.spec returns)
+unfolding message
+message-spec = tie.close (tie.spec (λ c. refl))

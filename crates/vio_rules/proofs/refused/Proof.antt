@@ -11,10 +11,6 @@ use Rattle.vio_model.specs.Rules.{refused}
 use Rattle.vio_rules.proofs.refused.Statement.{statement}
 use Rattle.vio_rules.proofs.refused.Tie as tie
 
-returns : tie.Need-returns
-unfolding refused pick
-returns c = rw (sym (c .before .is-unchanged .ensures) ∙ c .if1 .taken)
-
 returns-2 : tie.Need-returns-2
 unfolding refused pick
 returns-2 c = rw (sym (c .before .before .before .is-unchanged .ensures) ∙ c .before .before .if1 .left, no _ (c .before .tells-lower .ensures) (c .if2 .taken))
@@ -24,22 +20,16 @@ add-asking c = let d = c .before .before .before .before .before .before .args i
     let l = ltb-true (d .m .major) (d .major) (both _ _ (yes _ (c .before .before .tells-lower .ensures) (c .before .if2 .left)) .0) in
     omega arith
 
-asking-requires : tie.Need-asking-requires
-asking-requires c κs = c .before .before .before .before .before .before .pre
-
 returns-3 : tie.Need-returns-3
 unfolding refused pick
 returns-3 c = let d = c .before .before in
     rw (sym (d .before .before .before .is-unchanged .ensures) ∙ d .before .before .if1 .left, yes _ (d .before .tells-lower .ensures) (d .if2 .left)) (c .asking .ensures)
 
 pub refused-spec : {M : Type 1} → statement M
-refused-spec =
-    tie.close
-    (tie.spec
+unfolding refused pick
+refused-spec = tie.close (tie.spec
     (λ c κs. search needs)
-    returns
-    (λ c κs. search needs)
-    returns-2
-    add-asking
-    asking-requires
+    (λ c. rw (sym (c .before .is-unchanged .ensures) ∙ c .if1 .taken))
+    (λ c κs. search needs) returns-2 add-asking
+    (λ c κs. c .before .before .before .before .before .before .pre)
     returns-3)

@@ -10,9 +10,6 @@ use Rattle.vio_rules.proofs.requested.Tie as tie
 shared-slice-read-if1 : tie.Need-shared-slice-read-if1
 shared-slice-read-if1 c = let f = sound-facts _ (c .before .before .pre) in omega arith
 
-returns : tie.Need-returns
-returns c = refuses _ _ _ (c .before .if1 .taken) (c .message .ensures)
-
 versions-of-requires : tie.Need-versions-of-requires
 versions-of-requires c κs = let f = sound-facts _ (c .before .before .before .before .pre) in (f .size, f .few)
 
@@ -27,19 +24,8 @@ returns-3 c = let d = c .before .before .before in
     (d .if2 .left) (c .before .before .highest-below .ensures) (c .before .minor-of2 .ensures) (c .message3 .ensures)
 
 pub requested-spec : {M : Type 1} → statement M
-requested-spec =
-    tie.close
-    (tie.spec
-    shared-slice-read-if1
-    (λ c κs. search needs)
-    returns
-    versions-of-requires
-    (λ c κs. search needs)
-    (λ c κs. search needs)
-    (λ c κs. search needs)
-    (λ c κs. search needs)
-    returns-2
-    (λ c κs. search needs)
-    (λ c κs. search needs)
-    (λ c κs. search needs)
-    returns-3)
+requested-spec = tie.close (tie.spec
+    shared-slice-read-if1 (λ c κs. search needs)
+    (λ c. refuses _ _ _ (c .before .if1 .taken) (c .message .ensures))
+    versions-of-requires (λ c κs. search needs) (λ c κs. search needs) (λ c κs. search needs) (λ c κs. search needs)
+    returns-2 (λ c κs. search needs) (λ c κs. search needs) (λ c κs. search needs) returns-3)

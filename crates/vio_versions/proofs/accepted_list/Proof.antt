@@ -26,9 +26,6 @@ returns-2 c = refute _ (λ t. let r = list-rules _ t in omega arith)
 returns-3 : tie.Need-returns-3 Inv-loop μ-loop
 returns-3 c = refute _ (λ t. let r = list-rules _ t in omega arith)
 
-loop-holds : tie.Need-loop-holds Inv-loop μ-loop
-loop-holds c = (omega arith, every-none _)
-
 returns-4 : tie.Need-returns-4 Inv-loop μ-loop
 returns-4 c = let b = c .before .before .before .before in
     every-fails _ _ _ (c .before .before .loop-test .taken) (no _ (c .before .version-keeps .ensures) (c .if4 .taken))
@@ -42,18 +39,6 @@ returns-5 c = every-all _ _ _ (c .before .loop .inv .0) (c .loop-test .left) (c 
     ∙ sym (list-last _ (omega arith) (omega arith) (omega arith))
 
 pub accepted-list-spec : {M : Type 1} → statement M
-accepted-list-spec =
-    tie.close
-    (tie.spec
-    Inv-loop
-    μ-loop
-    returns
-    returns-2
-    returns-3
-    loop-holds
-    (λ c κs. omega arith)
-    returns-4
-    (λ c. omega arith)
-    (λ c. omega arith)
-    loop-again
-    returns-5)
+accepted-list-spec = tie.close (tie.spec
+    Inv-loop μ-loop returns returns-2 returns-3 (λ c. (omega arith, every-none _)) (λ c κs. omega arith) returns-4
+    (λ c. omega arith) (λ c. omega arith) loop-again returns-5)

@@ -6,11 +6,7 @@ use Rattle.model.proofs.Choice.{pick-true, pick-false}
 use Rattle.vio_versions.proofs.chosen.Statement.{statement}
 use Rattle.vio_versions.proofs.chosen.Tie as tie
 
-returns : tie.Need-returns
-returns c = sym (pick-true _ _ _ (eq-eqb _ _ (c .if1 .taken)))
-
-returns-2 : tie.Need-returns-2
-returns-2 c = sym (pick-false _ _ _ (ne-eqb _ _ (c .if1 .left)))
-
 pub chosen-spec : {M : Type 1} → statement M
-chosen-spec = tie.close (tie.spec returns returns-2)
+chosen-spec = tie.close (tie.spec
+    (λ c. sym (pick-true _ _ _ (eq-eqb _ _ (c .if1 .taken))))
+    (λ c. sym (pick-false _ _ _ (ne-eqb _ _ (c .if1 .left)))))

@@ -7,9 +7,6 @@ use Rattle.model.proofs.Choice.{pick-true, pick-false}
 use Rattle.vio_versions.proofs.higher.Statement.{statement}
 use Rattle.vio_versions.proofs.higher.Tie as tie
 
-returns : tie.Need-returns
-returns c = sym (pick-false _ _ _ (le-ltb _ _ (c .if1 .taken)))
-
 returns-2 : tie.Need-returns-2
 returns-2 c = sym (pick-true _ _ _ (lt-ltb _ _ (c .before .if1 .left)) ∙ omega arith)
 
@@ -17,4 +14,6 @@ returns-3 : tie.Need-returns-3
 returns-3 c = sym (pick-true _ _ _ (lt-ltb _ _ (c .before .if1 .left)) ∙ omega arith)
 
 pub higher-spec : {M : Type 1} → statement M
-higher-spec = tie.close (tie.spec returns returns-2 returns-3)
+higher-spec = tie.close (tie.spec
+    (λ c. sym (pick-false _ _ _ (le-ltb _ _ (c .if1 .taken))))
+    returns-2 returns-3)

@@ -14,12 +14,6 @@ Inv-loop list bound n highest₀ i₀ highest i = (i ≤ n) × (highest ≡ high
 abbrev μ-loop : tie.MeasureT-loop
 μ-loop list bound n highest₀ i₀ highest i = n - i
 
-loop-holds : tie.Need-loop-holds Inv-loop μ-loop
-loop-holds c = (omega arith, highest-start _ _)
-
-higher-requires : tie.Need-higher-requires Inv-loop μ-loop
-higher-requires c κs = tt
-
 loop-again : tie.Need-loop-again Inv-loop μ-loop
 loop-again c = (omega arith, highest-more _ _ _ (c .before .before .before .loop .inv .1) (c .higher .ensures))
 
@@ -27,17 +21,6 @@ returns : tie.Need-returns Inv-loop μ-loop
 returns c = all-done (λ k. highestIn (c .before .before .before .args .list .now) (c .before .before .before .args .bound) k) _ _ (c .before .loop .inv .0) (c .loop-test .left) (c .before .loop .inv .1)
 
 pub highest-below-spec : {M : Type 1} → statement M
-highest-below-spec =
-    tie.close
-    (tie.spec
-    Inv-loop
-    μ-loop
-    loop-holds
-    (λ c. omega arith)
-    (λ c. omega arith)
-    (λ c. omega arith)
-    higher-requires
-    (λ c. omega arith)
-    (λ c. omega arith)
-    loop-again
-    returns)
+highest-below-spec = tie.close (tie.spec
+    Inv-loop μ-loop (λ c. (omega arith, highest-start _ _)) (λ c. omega arith) (λ c. omega arith) (λ c. omega arith)
+    (λ c κs. omega arith) (λ c. omega arith) (λ c. omega arith) loop-again returns)

@@ -4,8 +4,5 @@ use native.Mathlib.Omega.{arith}
 use Rattle.vio_versions.proofs.holds.Statement.{statement}
 use Rattle.vio_versions.proofs.holds.Tie as tie
 
-returns : tie.Need-returns
-returns c = c .holds-in .ensures
-
 pub holds-spec : {M : Type 1} → statement M
-holds-spec = tie.close (tie.spec (λ c κs. omega arith) returns)
+holds-spec = tie.close (tie.spec (λ c κs. omega arith) (λ c. c .holds-in .ensures))

@@ -14,12 +14,6 @@ Inv-loop list major n minor₀ i₀ minor i = (i ≤ n) × (minor ≡ minorIn li
 abbrev μ-loop : tie.MeasureT-loop
 μ-loop list major n minor₀ i₀ minor i = n - i
 
-loop-holds : tie.Need-loop-holds Inv-loop μ-loop
-loop-holds c = (omega arith, minor-start _ _)
-
-chosen-requires : tie.Need-chosen-requires Inv-loop μ-loop
-chosen-requires c κs = tt
-
 loop-again : tie.Need-loop-again Inv-loop μ-loop
 loop-again c = (omega arith, minor-more _ _ _ (c .before .before .before .before .loop .inv .1) (c .chosen .ensures))
 
@@ -27,21 +21,7 @@ returns : tie.Need-returns Inv-loop μ-loop
 returns c = all-done (λ k. minorIn (c .before .before .before .args .list .now) (c .before .before .before .args .major) k) _ _ (c .before .loop .inv .0) (c .loop-test .left) (c .before .loop .inv .1)
 
 pub minor-of-spec : {M : Type 1} → statement M
-minor-of-spec =
-    tie.close
-    (tie.spec
-    Inv-loop
-    μ-loop
-    loop-holds
-    (λ c. omega arith)
-    (λ c. omega arith)
-    (λ c. omega arith)
-    (λ c. omega arith)
-    (λ c. omega arith)
-    (λ c. omega arith)
-    (λ c. omega arith)
-    chosen-requires
-    (λ c. omega arith)
-    (λ c. omega arith)
-    loop-again
-    returns)
+minor-of-spec = tie.close (tie.spec
+    Inv-loop μ-loop (λ c. (omega arith, minor-start _ _)) (λ c. omega arith) (λ c. omega arith) (λ c. omega arith)
+    (λ c. omega arith) (λ c. omega arith) (λ c. omega arith) (λ c. omega arith) (λ c κs. omega arith) (λ c. omega arith)
+    (λ c. omega arith) loop-again returns)

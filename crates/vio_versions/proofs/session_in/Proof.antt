@@ -7,10 +7,6 @@ use Rattle.vio_model.specs.Layout.{sessionIn, askedStage, agreedStage}
 use Rattle.vio_versions.proofs.session_in.Statement.{statement}
 use Rattle.vio_versions.proofs.session_in.Tie as tie
 
-returns : tie.Need-returns
-unfolding sessionIn pick
-returns c = rw (eq-eqb _ _ (c .match .keys1))
-
 returns-2 : tie.Need-returns-2
 unfolding sessionIn pick
 returns-2 c = let k = c .match .keys2 in rw (ne-eqb (c .before .args .stage) askedStage (λ e. omega arith), eq-eqb _ _ k)
@@ -24,4 +20,5 @@ unfolding sessionIn pick
 returns-4 c = rw (ne-eqb _ _ (c .match .rest .0 .0 .1), ne-eqb _ _ (c .match .rest .0 .1), ne-eqb _ _ (c .match .rest .1))
 
 pub session-in-spec : {M : Type 1} → statement M
-session-in-spec = tie.close (tie.spec returns returns-2 returns-3 returns-4)
+unfolding sessionIn pick
+session-in-spec = tie.close (tie.spec (λ c. rw (eq-eqb _ _ (c .match .keys1))) returns-2 returns-3 returns-4)

@@ -24,21 +24,7 @@ returns-4 : tie.Need-returns-4
 unfolding _and_
 returns-4 c = rw (c .minor-of2 .ensures) (sym (agreed-keeps _ _ _ _ _ _ (yes _ (c .before .before .names-held2 .ensures) (c .before .if2 .left)) (c .before .before .before .before .session2 .given .1)))
 
-returns-5 : tie.Need-returns-5
-returns-5 c = other-keeps _ _ (c .match .keys3)
-
 pub session-keeps-spec : {M : Type 1} → statement M
-session-keeps-spec =
-    tie.close
-    (tie.spec
-    (λ c. search needs)
-    (λ c κs. search needs)
-    returns
-    (λ c κs. search needs)
-    (λ c. search needs)
-    (λ c κs. search needs)
-    returns-2
-    (λ c κs. search needs)
-    returns-3
-    returns-4
-    returns-5)
+session-keeps-spec = tie.close (tie.spec
+    (λ c. search needs) (λ c κs. search needs) returns (λ c κs. search needs) (λ c. search needs) (λ c κs. search needs)
+    returns-2 (λ c κs. search needs) returns-3 returns-4 (λ c. other-keeps _ _ (c .match .keys3)))

@@ -5,17 +5,8 @@ use Rattle.vio_model.specs.Layout.{sessionOf}
 use Rattle.vio_versions.proofs.session_of.Statement.{statement}
 use Rattle.vio_versions.proofs.session_of.Tie as tie
 
-returns : tie.Need-returns
-unfolding sessionOf
-returns c = c .session-in .ensures
-
 pub session-of-spec : {M : Type 1} → statement M
-session-of-spec =
-    tie.close
-    (tie.spec
-    (λ c. search needs)
-    (λ c. search needs)
-    (λ c. search needs)
-    (λ c. search needs)
-    (λ c κs. search needs)
-    returns)
+unfolding sessionOf
+session-of-spec = tie.close (tie.spec
+    (λ c. search needs) (λ c. search needs) (λ c. search needs) (λ c. search needs) (λ c κs. search needs)
+    (λ c. c .session-in .ensures))

@@ -22,18 +22,6 @@ returns-4 : tie.Need-returns-4
 returns-4 c = ap not (c .holds-in .ensures) ∙ sym (version-last _ _ (omega arith) (omega arith) (omega arith))
 
 pub version-keeps-spec : {M : Type 1} → statement M
-version-keeps-spec =
-    tie.close
-    (tie.spec
-    (λ c. search needs)
-    (λ c. search needs)
-    (λ c. search needs)
-    returns
-    returns-2
-    (λ c. search needs)
-    (λ c. search needs)
-    (λ c. search needs)
-    (λ c. search needs)
-    returns-3
-    (λ c κs. search needs)
-    returns-4)
+version-keeps-spec = tie.close (tie.spec
+    (λ c. search needs) (λ c. search needs) (λ c. search needs) returns returns-2 (λ c. search needs)
+    (λ c. search needs) (λ c. search needs) (λ c. search needs) returns-3 (λ c κs. search needs) returns-4)

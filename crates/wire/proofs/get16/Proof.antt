@@ -14,5 +14,5 @@ returns c =
     let args : _ = c .before .before .before .args in omega (arith, ap (byteAt (args .m .now)) (add-zero (args .at)))
 
 pub get16-spec : {M : Type 1} → statement M
-get16-spec =
-    tie.close (tie.spec (λ c κs. search needs) (λ c. search needs) (λ c. search needs) (λ c κs. search needs) (λ c. search needs) returns)
+get16-spec = tie.close (tie.spec
+    (λ c κs. search needs) (λ c. search needs) (λ c. search needs) (λ c κs. search needs) (λ c. search needs) returns)

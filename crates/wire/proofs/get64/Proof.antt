@@ -11,5 +11,5 @@ returns c =
     let args : _ = c .before .before .before .args in omega (arith, number-split (args .m .now) (args .at) 4 4)
 
 pub get64-spec : {M : Type 1} → statement M
-get64-spec =
-    tie.close (tie.spec (λ c κs. search needs) (λ c. search needs) (λ c κs. search needs) (λ c. search needs) (λ c. search needs) returns)
+get64-spec = tie.close (tie.spec
+    (λ c κs. search needs) (λ c. search needs) (λ c κs. search needs) (λ c. search needs) (λ c. search needs) returns)

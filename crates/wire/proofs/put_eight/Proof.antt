@@ -15,16 +15,10 @@ Inv-loop out₀ at bytes i₀ out i = (i ≤ 8) × (length out ≡ length out₀
 abbrev μ-loop : tie.MeasureT-loop
 μ-loop out₀ at bytes i₀ out i = 8 - i
 
-loop-holds : tie.Need-loop-holds Inv-loop μ-loop
-loop-holds c = (omega arith, refl, refl)
-
 loop-again : tie.Need-loop-again Inv-loop μ-loop
 loop-again c =
     let inv = c .before .loop .inv in
     (omega arith, rw length-set (inv .1), sets-more _ _ _ _ (omega arith) (inv .2))
-
-same-length : tie.Need-same-length Inv-loop μ-loop
-same-length c = c .before .loop .inv .1
 
 returns : tie.Need-returns Inv-loop μ-loop
 returns c =
@@ -32,17 +26,6 @@ returns c =
     l .inv .2 ∙ ap (sets _ _) (take-all (l .i) (c .before .before .args .t3) (omega arith))
 
 pub put-eight-spec : {M : Type 1} → statement M
-put-eight-spec =
-    tie.close
-    (tie.spec
-    Inv-loop
-    μ-loop
-    loop-holds
-    (λ c. omega arith)
-    (λ c. omega arith)
-    (λ c. omega arith)
-    (λ c. omega arith)
-    (λ c. omega arith)
-    loop-again
-    same-length
-    returns)
+put-eight-spec = tie.close (tie.spec
+    Inv-loop μ-loop (λ c. (omega arith, refl, refl)) (λ c. omega arith) (λ c. omega arith) (λ c. omega arith)
+    (λ c. omega arith) (λ c. omega arith) loop-again (λ c. c .before .loop .inv .1) returns)
