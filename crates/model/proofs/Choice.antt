@@ -44,6 +44,29 @@ pub join : (a b : Bool) → a ≡ true → b ≡ true → (a and b) ≡ true
 unfolding _and_
 join a b p q = rw (p, q)
 
+-- A list of tests: their conjunction, and that each holds.
+abbrev allOf : List Bool → Bool
+allOf [] = true
+allOf (b ∷ []) = b
+allOf (b ∷ c ∷ l) = b and allOf (c ∷ l)
+
+abbrev Each : List Bool → Type 0
+Each [] = Unit {0}
+Each (b ∷ []) = b ≡ true
+Each (b ∷ c ∷ l) = (b ≡ true) × Each (c ∷ l)
+
+-- where the conjunction holds, each test does
+pub each-of : (l : List Bool) → allOf l ≡ true → Each l
+each-of [] e = tt
+each-of (b ∷ []) e = e
+each-of (b ∷ c ∷ l) e = let p = both b (allOf (c ∷ l)) e in (p .0, each-of (c ∷ l) (p .1))
+
+-- where each test holds, the conjunction does
+pub all-of : (l : List Bool) → Each l → allOf l ≡ true
+all-of [] h = refl
+all-of (b ∷ []) h = h
+all-of (b ∷ c ∷ l) h = join b (allOf (c ∷ l)) (h .0) (all-of (c ∷ l) (h .1))
+
 pub and-false : (a b : Bool) → a ≡ false → (a and b) ≡ false
 unfolding _and_
 and-false a b e = rw e

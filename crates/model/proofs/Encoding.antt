@@ -290,12 +290,7 @@ accepted-said s t w f =
     (record {
       base = base-said s t w f;
       removal = removes-said s t w f;
-      counts = record {
-        some = rw (w .last) (f .some);
-        lasts = rw (w .last) (f .lasts);
-        helds = rw (w .held) (f .helds);
-        numbered = rw (w .held, w .last) (f .numbered);
-      };
+      counts = omega arith;
       devices = devices-said s t w f;
       orders = orders-said s t w f;
       ids = ids-said s t w f;
@@ -431,11 +426,7 @@ module _ (t : Told) (f : SoundTold t) where
 
   arrays : Arrays (removalTold (t .removal))
   unfolding removalTold
-  arrays = record {
-    addresses = tabulate-length _ mostRecords;
-    sizes = tabulate-length _ mostRecords;
-    results = tabulate-length _ mostRecords;
-  }
+  arrays = search (tabulate-length)
 
   -- below the removal's words
   words-low : (j : ℕ) → j < outstandingWord → getD (wordsTold t) j 0 ≡ getD (lowTold t) j 0

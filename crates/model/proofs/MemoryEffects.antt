@@ -16,7 +16,7 @@ use Rattle.model.specs.declared.Removal.{Removal}
 use Rattle.model.specs.declared.Request.{Request}
 use Rattle.model.specs.declared.Request.the-variants.{Configure, Unconfigure, Query, Status, Cancel, Malformed}
 use Rattle.model.specs.Layout.{memoryService, deviceCountWord, stateWords, blocksOf, blockAt, lastOf, outstandingOf, isSet, removalOf, withConfigured, withRemoval, withNumber, lastWord, mostBlocks, mostRecords, outputBytes, outstandingWord, noBlock, channelCount}
-use Rattle.model.specs.State.{removalRoom, collectedSound, resultsSound}
+use Rattle.model.specs.State.{collectedSound, resultsSound}
 use Rattle.model.specs.Journal.{fieldsOf, answeredEvent, configuredEvent, cancelledEvent, begunEvent, codeBlocked, codeError, codeNone}
 use Rattle.model.specs.Messages.{Effect, effect}
 use Rattle.model.specs.Memory.{argumentOf, addrIn, sizeIn, hasRecords, requestOf, requestNumber, memoryReply, answering, answeringError, blocked, Progress, oneFailed, oneConfigured, oneUnchanged, configureOne, configuredBy, configureReply, answeringConfigure, beginning, querying, reporting, marked, cancelling, requested, answeredMemory, DR-MEM-OK, configureAt, newRemoval}
@@ -199,15 +199,7 @@ module _ (s : List ℕ) (g : Given s) where
       (begun-fits _ c (next-number s g) (h .below) n request few)
       refl
       short-empty
-      (record {
-        channels = h .below;
-        handles = u;
-        some = some;
-        few = few;
-        within = omega arith;
-        room = collected-none (removalRoom s (newRemoval c handle request b n));
-        results = refl;
-      })
+      (search (arith, collected-none))
       (λ blocks removal. begins (newRemoval c handle request b n) blocks removal refl refl o refl)
       refl
       (begun-needs _ _ c n request (h .ready) (h .shown))
@@ -228,19 +220,11 @@ module _ (s : List ℕ) (g : Given s) where
       let a = loaded-arrays s in
       let m = removes-now s g o .facts in
       removal-changed (cancelledEvent c request) reply (marked (removalOf s))
-      (record { addresses = a .addresses; sizes = a .sizes; results = a .results })
+      (search)
       (cancelled-fits _ c (next-number s g) (h .below) request)
       (rw (removing-now o))
       f
-      (record {
-        channels = m .channels;
-        handles = m .handles;
-        some = m .some;
-        few = m .few;
-        within = m .within;
-        room = collected-none (removalRoom s (marked (removalOf s)));
-        results = m .results;
-      })
+      (search (collected-none))
       (λ blocks removal. marks blocks removal (removes-now s g o .one) refl)
       refl
       (cancelled-needs _ _ c request (h .ready) (h .shown) (removing-shown o))

@@ -4,7 +4,7 @@ use Prim.Native.Nat.{ℕ, _+_, _-_, _≤_, _<_}
 use native.Mathlib.Omega.{arith}
 use mathlib.Core.Path.{_≡_, refl, sym, ap, _∙_}
 use mathlib.Core.Bool.{Bool, true, false, not}
-use mathlib.Core.List.{List, []}
+use mathlib.Core.List.{List, [], _∷_}
 use lib.ListN.{length}
 use lib.Dec.{eqb, leb}
 use borrow.Author.Tests.{le-leb, eqb-true, eqb-false}
@@ -17,7 +17,7 @@ use Rattle.model.specs.Orders.{DOMAIN-SHUTDOWN-SUCCESS, orderNumber, del
 use Rattle.model.specs.Journal.{orderedEvent, permittedEvent, takenEvent, kindDevice, fieldsOf, kindPeerRegistered}
 use Rattle.model.specs.Messages.{effect}
 use Rattle.model.specs.Reading.{handleIn, readIn, settledBlock, View, Order, shutdown, panic, orderShown, ordersShown, readOrders, seePermission, seeOrder}
-use Rattle.model.proofs.Choice.{on-pick, both, join, or-true}
+use Rattle.model.proofs.Choice.{on-pick, each-of, join, or-true}
 use Rattle.model.proofs.Words.{Agree, permission-frame, permission-length, permission-word, order-frame, order-length, order-word, delay-word}
 use Rattle.model.proofs.Peers.{leavesPeers}
 use Rattle.model.proofs.Above.{setsOrders}
@@ -37,11 +37,7 @@ pub record OrderFacts (s : List ℕ) : Type 0 where
 
 order-facts : (s : List ℕ) → ordersSound s ≡ true → OrderFacts s
 unfolding ordersSound
-order-facts s e =
-    let p = both _ _ e in
-    let q = both _ _ (p .1) in
-    let r = both _ _ (q .1) in
-    record { shutdowns = p .0; panics = q .0; order = r .0; delay = r .1 }
+order-facts s e = let h = each-of (_ ∷ _ ∷ _ ∷ _ ∷ []) e in search
 
 pub order-test : (s : List ℕ) → OrderFacts s → ordersSound s ≡ true
 unfolding ordersSound

@@ -4,7 +4,7 @@ use Prim.Native.Nat.{ℕ, zero, suc, _+_, _-_, _*_, _/_, _%_, _<_, _≤_}
 use native.Mathlib.Omega.{arith}
 use mathlib.Core.Path.{_≡_, refl, sym, ap, _∙_}
 use mathlib.Core.Bool.{Bool, true, false, not}
-use mathlib.Core.List.{List}
+use mathlib.Core.List.{List, [], _∷_}
 use lib.ListN.{length, getD, set}
 use lib.Dec.{eqb, leb, ltb}
 use borrow.Author.Tests.{leb-true, le-leb, ltb-true, ltb-false, lt-ltb, eqb-true, eqb-false, ne-eqb, eq-eqb, not-true}
@@ -14,7 +14,7 @@ use Rattle.model.specs.Peers.{topBit, isPeered, peeredAs, peersBelow, pe
 use Rattle.model.specs.Journal.{fieldsOf}
 use Rattle.model.specs.Messages.{Effect}
 use Rattle.model.specs.Reading.{Peer, noPeer, peer, peerPlace, peersShown, hasHandle, endedFrom, readPeers}
-use Rattle.model.proofs.Choice.{clash, on-pick, pick-true, pick-false, both, join, every-at, every-make, tabulate-at, tabulate-same, tabulate-set}
+use Rattle.model.proofs.Choice.{clash, each-of, on-pick, pick-true, pick-false, both, join, every-at, every-make, tabulate-at, tabulate-same, tabulate-set}
 use Rattle.model.proofs.Marks.{bit-few}
 use Rattle.model.proofs.Words.{Agree, peer-frame, peer-mark, peer-mark-other, peer-handle, peer-minor, unpeer-frame, unpeer-mark, unpeer-mark-other}
 use Rattle.model.proofs.Peers.{OwnPeers, PeerTurn, peers-same, mark-same, handle-same, minor-same}
@@ -34,10 +34,9 @@ module _ (s : List ℕ) (ready c p : ℕ) where
       go false q =
           let f : (eqb ready 1 and ltb p (idsOf s) and ltb (peerHandleAt s c p) topBit and leb (peerMinorAt s c p) (idAt s p .minor)) ≡ true = unfold peerSound _or_ in (rw q at e) in
           let n = eqb-false (peeredAt s c p) 0 q in
-          let y = both _ _ f in
-          let z = both _ _ (y .1) in
-          let w = both _ _ (z .1) in
-          peered (is-one (peeredAt s c p) (bit-few _ p) n) (eqb-true _ 1 (y .0)) (ltb-true _ _ (z .0)) (ltb-true _ _ (w .0)) (leb-true _ _ (w .1))
+          let h = each-of (_ ∷ _ ∷ _ ∷ _ ∷ []) f in
+          peered (is-one (peeredAt s c p) (bit-few _ p) n)
+          (omega (arith, eqb-true)) (omega (arith, ltb-true)) (omega (arith, ltb-true)) (omega (arith, leb-true))
         where
           is-one : (x : ℕ) → x < 2 → (x ≡ 0 → ⊥) → x ≡ 1
           is-one zero b n = absurd (n refl)

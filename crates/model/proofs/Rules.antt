@@ -2,7 +2,7 @@
 -- Assumes nothing.
 use mathlib.Core.Path.{_≡_, refl, sym, ap, _∙_}
 use mathlib.Core.Bool.{Bool, true, false, not}
-use mathlib.Core.List.{List}
+use mathlib.Core.List.{List, [], _∷_}
 use Prim.Native.Nat.{ℕ, _+_, _/_, _%_, _<_, _≤_}
 use native.Mathlib.Omega.{arith}
 use lib.ListN.{length}
@@ -15,7 +15,7 @@ use Rattle.model.specs.Peers.{idsKeep, peersSound}
 use Rattle.model.specs.Devices.{devicesKeep}
 use Rattle.model.specs.Blocks.{endOf, blockKeeps, endBefore, blocksKeep, highestEnd, mostPages, pageSize}
 use Rattle.model.specs.State.{serviceSound, serviceSoundAt, handleApart, removalRoom, collectedSound, resultsSound, removalSound, outstandingSound, ordersSound, sound, isOurs, ourHandle}
-use Rattle.model.proofs.Choice.{clash, both, join, every-at, every-make}
+use Rattle.model.proofs.Choice.{clash, both, each-of, join, all-of, every-at, every-make}
 
 -- The handles that are ours.
 pub record Ours (first last handle : ℕ) : Type 0 where
@@ -48,14 +48,8 @@ module _ (stage handle minor ready last : ℕ) where
   pub live-rules : (stage ≡ stageIdle → ⊥) → serviceSound stage handle minor ready last ≡ true → Live stage handle ready last
   unfolding serviceSound _or_
   live-rules n t =
-      let t1 = both _ _ (rw (ne-eqb stage stageIdle n) at t) in
-      let t2 = both _ _ (t1 .1) in
-      let t3 = both _ _ (t2 .1) in
-      record {
-        stages = leb-true _ _ (t1 .0);
-        isReady = eqb-true _ _ (t2 .0);
-        ours = ours-facts 1 last handle (t3 .0);
-      }
+      let h = each-of (_ ∷ _ ∷ _ ∷ _ ∷ []) (rw (ne-eqb stage stageIdle n) at t) in
+      search (arith, ours-facts, leb-true, eqb-true)
 
   -- where those hold, the minor decides
   pub live-last : (stage ≡ stageIdle → ⊥) → Live stage handle ready last → serviceSound stage handle minor ready last ≡ (eqb stage stageOffered or leb minor highestMinor)
@@ -95,25 +89,7 @@ pub record Keeps (b : Block) (floor : ℕ) : Type 0 where
 module _ (b : Block) (floor : ℕ) where
   pub block-rules : blockKeeps b floor ≡ true → Keeps b floor × (pick (eqb (b .permanent) 0) (eqb (b .first) 0) (eqb (b .configured) 1) ≡ true)
   unfolding blockKeeps
-  block-rules t =
-      let t1 = both _ _ t in
-      let t2 = both _ _ (t1 .1) in
-      let t3 = both _ _ (t2 .1) in
-      let t4 = both _ _ (t3 .1) in
-      let t5 = both _ _ (t4 .1) in
-      let t6 = both _ _ (t5 .1) in
-      let t7 = both _ _ (t6 .1) in (
-        record {
-          aligned = eqb-true _ _ (t1 .0);
-          some = leb-true _ _ (t2 .0);
-          few = leb-true _ _ (t3 .0);
-          below = leb-true _ _ (t4 .0);
-          above = leb-true _ _ (t5 .0);
-          within = leb-true _ _ (t6 .0);
-          flag = leb-true _ _ (t7 .0);
-        },
-        t7 .1,
-      )
+  block-rules t = let h = each-of (_ ∷ _ ∷ _ ∷ _ ∷ _ ∷ _ ∷ _ ∷ _ ∷ []) t in (omega (arith, eqb-true, leb-true), cc)
 
   -- where those hold, the last rule decides
   pub block-last : Keeps b floor → blockKeeps b floor ≡ pick (eqb (b .permanent) 0) (eqb (b .first) 0) (eqb (b .configured) 1)
@@ -191,35 +167,11 @@ pub record Given (s : List ℕ) : Type 0 where
 module _ (s : List ℕ) (last : ℕ) (m : Removal) where
   removal-facts : removalSound s last m ≡ true → RemovalFacts s last m
   unfolding removalSound
-  removal-facts t =
-      let t1 = both _ _ t in
-      let t2 = both _ _ (t1 .1) in
-      let t3 = both _ _ (t2 .1) in
-      let t4 = both _ _ (t3 .1) in
-      let t5 = both _ _ (t4 .1) in
-      let t6 = both _ _ (t5 .1) in
-      record {
-        channels = ltb-true _ _ (t1 .0);
-        handles = ours-facts 0 last (m .handle) (t2 .0);
-        some = leb-true _ _ (t3 .0);
-        few = leb-true _ _ (t4 .0);
-        within = leb-true _ _ (t5 .0);
-        room = t6 .0;
-        results = t6 .1;
-      }
+  removal-facts t = let h = each-of (_ ∷ _ ∷ _ ∷ _ ∷ _ ∷ _ ∷ _ ∷ []) t in search (arith, ours-facts, leb-true, ltb-true)
 
   removal-test : RemovalFacts s last m → removalSound s last m ≡ true
-  unfolding removalSound _and_
-  removal-test r =
-      rw (
-        lt-ltb _ _ (r .channels),
-        ours-test 0 last (m .handle) (r .handles),
-        le-leb _ _ (r .some),
-        le-leb _ _ (r .few),
-        le-leb _ _ (r .within),
-        r .room,
-        r .results,
-      )
+  unfolding removalSound
+  removal-test r = all-of (_ ∷ _ ∷ _ ∷ _ ∷ _ ∷ _ ∷ _ ∷ []) (search (ours-test, le-leb, lt-ltb))
 
 module _ (s : List ℕ) where
   -- the test of two services
@@ -260,13 +212,8 @@ module _ (s : List ℕ) where
       go : (b : Bool) → eqb (outstandingOf s) 0 ≡ b → b ≡ false → (b or (eqb (outstandingOf s) 1 and leb (cancelledOf s) 1 and removalSound s (lastOf s) (removalOf s))) ≡ true → Outstanding s (lastOf s)
       go true z n t = absurd (clash true n refl)
       go false z n t =
-          let t1 = both _ _ t in
-          let t2 = both _ _ (t1 .1) in
-          record {
-            one = eqb-true _ 1 (t1 .0);
-            flag = leb-true _ 1 (t2 .0);
-            facts = removal-facts s (lastOf s) (removalOf s) (t2 .1);
-          }
+          let h = each-of (_ ∷ _ ∷ _ ∷ []) t in
+          search (arith, removal-facts, eqb-true, leb-true)
 
   removes-test : Removes s (lastOf s) → outstandingSound s ≡ true
   unfolding outstandingSound _or_
@@ -276,43 +223,28 @@ module _ (s : List ℕ) where
       go true z = refl
       go false z =
           let r = f (ap not z) in
-          join _ _ (eq-eqb _ 1 (r .one)) (join _ _ (le-leb _ 1 (r .flag)) (removal-test s (lastOf s) (removalOf s) (r .facts)))
+          all-of (_ ∷ _ ∷ _ ∷ []) (search (removal-test, eq-eqb, le-leb))
 
   pub sound-facts : sound s ≡ true → Sound s
   unfolding sound blocksKeep
   sound-facts t =
-      let t1 = both _ _ t in
-      let b1 = both _ _ (t1 .0) in
-      let t2 = both _ _ (t1 .1) in
-      let t3 = both _ _ (t2 .1) in
-      let t4 = both _ _ (t3 .1) in
-      let t5 = both _ _ (t4 .1) in
-      let t6 = both _ _ (t5 .1) in
-      let t7 = both _ _ (t6 .1) in
-      let t8 = both _ _ (t7 .1) in
-      let t9 = both _ _ (t8 .1) in
-      let t10 = both _ _ (t9 .1) in
-      let t11 = both _ _ (t10 .1) in
-      let t12 = both _ _ (t11 .1) in
+      let h = each-of (_ ∷ _ ∷ _ ∷ _ ∷ _ ∷ _ ∷ _ ∷ _ ∷ _ ∷ _ ∷ _ ∷ _ ∷ _ ∷ []) t in
+      let b = both _ _ (h .0) in
       record {
         base = record {
-          few = leb-true _ mostBlocks (b1 .0);
-          blocks = λ i h. every-at (λ i. blockKeeps (blockAt s i) (endBefore s firstBlockWord i)) (blocksOf s) i (b1 .1) h;
-          ready = λ c h. leb-true _ 1 (every-at (λ c. leb (readyAt s c) 1) channelCount c (t2 .0) h);
-          services = λ k h. every-at (λ k. serviceSoundAt s k) placeCount k (t3 .0) h;
-          apart = apart-facts (t4 .0);
+          few = leb-true _ mostBlocks (b .0);
+          blocks = λ i l.
+              every-at (λ i. blockKeeps (blockAt s i) (endBefore s firstBlockWord i)) (blocksOf s) i (b .1) l;
+          ready = λ c l. leb-true _ 1 (every-at (λ c. leb (readyAt s c) 1) channelCount c (cc) l);
+          services = λ k l. every-at (λ k. serviceSoundAt s k) placeCount k (cc) l;
+          apart = apart-facts (cc);
         };
-        removal = removes-facts (t9 .0);
-        counts = record {
-          some = leb-true _ _ (t5 .0);
-          lasts = leb-true _ _ (t6 .0);
-          helds = leb-true _ _ (t7 .0);
-          numbered = leb-true _ _ (t8 .0);
-        };
-        devices = t10 .0;
-        orders = t11 .0;
-        ids = t12 .0;
-        peers = λ c h. every-at (λ c. peersSound s (readyAt s c) c) channelCount c (t12 .1) h;
+        removal = removes-facts (cc);
+        counts = omega (arith, leb-true);
+        devices = cc;
+        orders = cc;
+        ids = cc;
+        peers = λ c l. every-at (λ c. peersSound s (readyAt s c) c) channelCount c (cc) l;
       }
 
   pub sound-test : Sound s → sound s ≡ true
@@ -331,31 +263,10 @@ module _ (s : List ℕ) where
 
 -- a later last number
 pub base-later : {s : List ℕ} {last : ℕ} (last′ : ℕ) → last ≤ last′ → Base s last → Base s last′
-base-later last′ le b = record {
-  few = b .few;
-  blocks = b .blocks;
-  ready = b .ready;
-  services = λ k h. service-later _ _ _ _ _ last′ le (b .services k h);
-  apart = b .apart;
-}
+base-later last′ le b = search (service-later, b .services)
 
 pub removes-later : (s : List ℕ) (last last′ : ℕ) → last ≤ last′ → Removes s last → Removes s last′
-removes-later s last last′ le f o =
-    let r = f o in
-    let m = r .facts in
-    record {
-      one = r .one;
-      flag = r .flag;
-      facts = record {
-        channels = m .channels;
-        handles = ours-later 0 last last′ (removalOf s .handle) le (m .handles);
-        some = m .some;
-        few = m .few;
-        within = m .within;
-        room = m .room;
-        results = m .results;
-      };
-    }
+removes-later s last last′ le f o = let r = f o in search (ours-later)
 
 -- the rules of a sound state's block
 pub sound-block : (s : List ℕ) (i : ℕ) → sound s ≡ true → i < blocksOf s → Keeps (blockAt s i) (endBefore s firstBlockWord i)

@@ -17,7 +17,7 @@ use Rattle.model.specs.Peers.{idsKeep, peersSound}
 use Rattle.model.proofs.Above.{orders-kept}
 use Rattle.model.proofs.Peers.{ids-same, peers-same}
 use Rattle.model.specs.Blocks.{endOf, blockKeeps, endBefore, names, namedBlock}
-use Rattle.model.specs.State.{serviceSound, roomOf, removalRoom, ordersSound, sound, roomAt}
+use Rattle.model.specs.State.{collectedSound, serviceSound, roomOf, removalRoom, ordersSound, sound, roomAt}
 use Rattle.model.specs.Reading.{flagged}
 use Rattle.model.proofs.Choice.{clash, first-same, first-facts}
 use Rattle.model.specs.declared.Found.{Found}
@@ -112,21 +112,13 @@ base-same s t last a b =
 pub removes-same : (s t : List ℕ) (last : ℕ) → blocksOf s ≤ mostBlocks → Agree s t blockCountWord lastWord → Agree s t outstandingWord firstNumberedWord → Removes s last → Removes t last
 removes-same s t last few a b f o =
     let r = f (rw (b outstandingWord (omega arith) (omega arith)) at o) in
-    let m = r .facts in
+    let m = removalOf s in
+    let room : collectedSound (m .collected) (removalRoom t m) ≡ true =
+    rw (removal-room s t few a m) (r .facts .room) in
     record {
       one = b outstandingWord (omega arith) (omega arith) ∙ r .one;
       flag = rw (b cancelledWord (omega arith) (omega arith)) (r .flag);
-      facts =
-          rw (removal-same s t b)
-          (record {
-            channels = m .channels;
-            handles = m .handles;
-            some = m .some;
-            few = m .few;
-            within = m .within;
-            room = rw (removal-room s t few a (removalOf s)) (m .room);
-            results = m .results;
-          });
+      facts = rw (removal-same s t b) (search);
     }
 
 -- One service changed: it is sound by itself, and its handle is no other service's, or 0.
@@ -252,17 +244,7 @@ unfolding flagged pick
 flag-keeps x floor flag small old perm =
     let r = block-rules x floor old in
     let f = r .0 in
-    block-last (flagged flag x) floor
-    (record {
-      aligned = f .aligned;
-      some = f .some;
-      few = f .few;
-      below = f .below;
-      above = f .above;
-      within = f .within;
-      flag = small;
-    })
-    ∙ decide (eqb (x .permanent) 0) refl (r .1)
+    block-last (flagged flag x) floor (omega arith) ∙ decide (eqb (x .permanent) 0) refl (r .1)
   where
     decide : (y : Bool) → eqb (x .permanent) 0 ≡ y → pick y (eqb (x .first) 0) (eqb (x .configured) 1) ≡ true → pick y (eqb (x .first) 0) (eqb flag 1) ≡ true
     decide true z e = e
@@ -311,20 +293,13 @@ base-removal s last m b = base-same s (withRemoval s m) last (λ j lo hi. remova
 
 pub removes-made : (s : List ℕ) (last : ℕ) (m : Removal) → length s ≡ stateWords → blocksOf s ≤ mostBlocks → Arrays m → RemovalFacts s last m → Removes (withRemoval s m) last
 removes-made s last m n few a f o =
+    let t = withRemoval s m in
+    let same = removal-room s t few (λ j lo hi. removal-frame s m j (omega arith)) m in
+    let room : collectedSound (m .collected) (removalRoom t m) ≡ true = rw same (f .room) in
     record {
       one = head-back s m n a 0 (omega arith);
       flag = rw (head-back s m n a 1 (omega arith)) (small (m .cancelled));
-      facts =
-          rw (removal-back s m n a)
-          (record {
-            channels = f .channels;
-            handles = f .handles;
-            some = f .some;
-            few = f .few;
-            within = f .within;
-            room = rw (removal-room s (withRemoval s m) few (λ j lo hi. removal-frame s m j (omega arith)) m) (f .room);
-            results = f .results;
-          });
+      facts = rw (removal-back s m n a) (search);
     }
   where
     small : (b : Bool) → wordOf b ≤ 1

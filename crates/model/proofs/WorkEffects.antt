@@ -145,21 +145,16 @@ module _ (s : List ℕ) (g : Given s) (o : isSet (outstandingOf s) ≡ true) whe
   collected-good n room l e h turn =
       let a = loaded-arrays s in
       let f = facts in
-      let same : removalRoom s (collecting (removalOf s) n) ≡ room = e in
+      let m = collecting (removalOf s) n in
+      let same : removalRoom s m ≡ room = e in
+      let sound : collectedSound (m .collected) (removalRoom s m) ≡ true =
+      rw same (collected-less (m .collected) room h) in
       removal-changed s g (collectedEvent (removalOf s .channel) n) [] (collecting (removalOf s) n)
-      (record { addresses = a .addresses; sizes = a .sizes; results = a .results })
+      (search)
       (collected-fits _ _ (next-number s g) (f .channels) n l)
       (rw (removing-now s g o))
       short-empty
-      (record {
-        channels = f .channels;
-        handles = f .handles;
-        some = f .some;
-        few = f .few;
-        within = f .within;
-        room = rw same (collected-less (removalOf s .collected + n) room h);
-        results = f .results;
-      })
+      (search)
       (λ blocks removal. turn)
       refl
       (collected-needs _ _ _ n (removing-shown s g o))
