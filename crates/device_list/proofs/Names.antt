@@ -2,14 +2,15 @@
 -- Assumes nothing.
 use mathlib.Core.Path.{_≡_, refl, sym, _∙_}
 use mathlib.Core.Bool.{true, false}
-use mathlib.Core.List.{List}
+use mathlib.Core.List.{List, [], _∷_}
 use Prim.Native.Nat.{ℕ, _+_, _*_, _/_, _%_, _<_, _≤_}
+use native.Mathlib.Omega.{arith}
 use lib.ListN.{length}
 use borrow.Author.Tests.{eq-eqb, ne-eqb, eqb-true, le-leb, leb-true}
 use Rattle.model.specs.Choice.{_and_, every}
 use Rattle.model.specs.Layout.{deviceIn, deviceWords, mostDevices, mostNameBytes, nameByteIn, nameBytesIn, namePlace}
 use Rattle.model.specs.Devices.{acceptedDevices, deviceApart, deviceKeeps, devicesKeep, isDevice, nameKeeps, sameName}
-use Rattle.model.proofs.Choice.{both, and-false, every-at}
+use Rattle.model.proofs.Choice.{both, and-false, every-at, each-of}
 use Rattle.names.specs.NameWords.{heldByte, heldBytes, padded, holdsName}
 use Rattle.names.proofs.Bytes.{and-next}
 use Rattle.names.proofs.Names.{NameRules, name-rules}
@@ -53,10 +54,7 @@ module _ (l : List ℕ) (at i : ℕ) where
 
   pub device-rules : deviceKeeps l at i ≡ true → DeviceRules
   unfolding deviceKeeps
-  device-rules e =
-      let p = both _ _ e in
-      let q = both _ _ (p .1) in
-      record { state = leb-true _ 1 (p .0); mark = leb-true _ 1 (q .0); name = q .1 }
+  device-rules e = let h = each-of (_ ∷ _ ∷ _ ∷ []) e in search (arith, leb-true)
 
   -- where its state and mark keep them, the name decides
   pub device-last : deviceIn l at i .configured ≤ 1 → deviceIn l at i .busy ≤ 1 → deviceKeeps l at i ≡ nameKeeps l at i

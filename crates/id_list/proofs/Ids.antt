@@ -2,7 +2,7 @@
 -- Assumes nothing.
 use mathlib.Core.Path.{_≡_, refl, sym, _∙_}
 use mathlib.Core.Bool.{true}
-use mathlib.Core.List.{List}
+use mathlib.Core.List.{List, [], _∷_}
 use Prim.Native.Nat.{ℕ, _+_, _*_, _/_, _%_, _<_, _≤_}
 use native.Mathlib.Omega.{arith}
 use lib.ListN.{length}
@@ -11,7 +11,7 @@ use Rattle.model.specs.Choice.{_and_, every}
 use Rattle.model.specs.Layout.{highestMinor, idByteIn, idBytesIn, idIn, idPlace, idWords, mostIdBytes, mostIds}
 use Rattle.model.specs.Devices.{sameName}
 use Rattle.model.specs.Peers.{acceptedIds, idApart, idBytesKeep, idKeeps, idsKeep}
-use Rattle.model.proofs.Choice.{both, every-at}
+use Rattle.model.proofs.Choice.{both, every-at, each-of}
 use Rattle.model.proofs.Loops.{every-none}
 use Rattle.names.specs.NameWords.{heldByte, heldBytes, padded, holdsName}
 use Rattle.names.proofs.Bytes.{and-next}
@@ -47,10 +47,7 @@ module _ (l : List ℕ) (at p : ℕ) where
 
   pub id-rules : idKeeps l at p ≡ true → IdRules
   unfolding idKeeps
-  id-rules e =
-      let m = both _ _ e in
-      let b = both _ _ (m .1) in
-      record { major = leb-true _ _ (m .0); minor = leb-true _ _ (b .0); bytes = b .1 }
+  id-rules e = let h = each-of (_ ∷ _ ∷ _ ∷ []) e in search (arith, leb-true)
 
   -- where its versions keep them, its bytes decide
   pub id-last : idIn l at p .major ≤ highestMinor → idIn l at p .minor ≤ highestMinor → holdsName l (bytesFrom at p) (idBytesIn l at p) mostIdBytes ≡ idKeeps l at p
@@ -73,10 +70,7 @@ module _ (l : List ℕ) (at n : ℕ) where
 
   pub ids-rules : idsKeep l at n ≡ true → IdsRules
   unfolding idsKeep
-  ids-rules e =
-      let m = both _ _ e in
-      let b = both _ _ (m .1) in
-      record { few = leb-true _ _ (m .0); each = b .0; apart = b .1 }
+  ids-rules e = let h = each-of (_ ∷ _ ∷ _ ∷ []) e in search (arith, leb-true)
 
   -- past the rules of each, they must be apart
   pub ids-last : n ≤ mostIds → every n (idKeeps l at) ≡ true → every n (idApart l at) ≡ idsKeep l at n

@@ -2,7 +2,7 @@
 -- Assumes nothing.
 use mathlib.Core.Path.{_≡_, refl, sym, ap, _∙_}
 use mathlib.Core.Bool.{Bool, true, false, not}
-use mathlib.Core.List.{List}
+use mathlib.Core.List.{List, [], _∷_}
 use Prim.Native.Nat.{ℕ, _+_, _-_, _*_, _/_, _%_, _<_, _≤_}
 use native.Mathlib.Nat.{mod-mod}
 use native.Mathlib.Omega.{arith}
@@ -13,7 +13,7 @@ use Rattle.wire.specs.BigEndian.{byteAt, numberAt}
 use Rattle.model.specs.Choice.{_and_, every, tabulate}
 use Rattle.model.specs.Layout.{wordByte, wordBytes}
 use Rattle.model.specs.Devices.{paddingBytes, sameName}
-use Rattle.model.proofs.Choice.{both, join, and-false, every-at, every-make, every-same, tabulate-at, tabulate-length}
+use Rattle.model.proofs.Choice.{both, join, and-false, every-at, every-make, every-same, tabulate-at, tabulate-length, each-of}
 use Rattle.names.specs.NameWords.{wholeWord, lastWord, sameBytes, heldByte, heldBytes, padded, holdsName}
 use Rattle.names.proofs.Bytes.{test-same, whole-byte, last-before, last-after, bytes-instead, number-byte}
 
@@ -57,16 +57,13 @@ module _ (l : List ℕ) (from n most : ℕ) where
   pub name-rules : holdsName l from n most ≡ true → NameRules
   unfolding holdsName
   name-rules e =
-      let p = both _ _ e in
-      let q = both _ _ (p .1) in
-      let r = both _ _ (q .1) in
-      let t = both _ _ (r .1) in
+      let h = each-of (_ ∷ _ ∷ _ ∷ _ ∷ _ ∷ []) e in
       record {
-        some = leb-true _ _ (p .0);
-        few = leb-true _ _ (q .0);
-        ends = eqb-true _ 0 (r .0);
-        none = λ x h. eqb-false _ 0 (not-true _ (every-at (λ k. not (eqb (heldByte l from k) 0)) _ x (t .0) h));
-        padding = t .1;
+        some = omega (arith, leb-true);
+        few = omega (arith, leb-true);
+        ends = omega (arith, eqb-true);
+        none = λ x k. eqb-false _ 0 (not-true _ (every-at (λ k. not (eqb (heldByte l from k) 0)) _ x (cc) k));
+        padding = cc;
       }
 
   name-made : NameRules → holdsName l from n most ≡ true

@@ -2,7 +2,7 @@
 -- Assumes nothing.
 use mathlib.Core.Path.{_≡_, refl, _∙_}
 use mathlib.Core.Bool.{Bool, true, false, not}
-use mathlib.Core.List.{List}
+use mathlib.Core.List.{List, [], _∷_}
 use Prim.Native.Nat.{ℕ, _+_, _*_, _%_, _^_, _<_}
 use native.Mathlib.Nat.{one-mul}
 use native.Mathlib.Omega.{arith}
@@ -13,7 +13,7 @@ use borrow.Author.Tests.{eqb-true, ltb-true, eq-eqb, ne-eqb, lt-ltb}
 use Rattle.model.specs.Choice.{_and_, _or_, every}
 use Rattle.model.specs.Layout.{mostIds, mostPeers, idsOf, idAt, peeredAt, peerHandleAt, peerMinorAt}
 use Rattle.model.specs.Peers.{topBit, peersBelow, peerSound, peerApart, peersSound}
-use Rattle.model.proofs.Choice.{both}
+use Rattle.model.proofs.Choice.{both, each-of}
 
 -- the bit of an id, in 64 bits
 pub own-bit : (p : ℕ) → p < mostIds → 1 * 2 ^ p % 2 ^ 64 ≡ 2 ^ p
@@ -34,10 +34,8 @@ module _ (s : List ℕ) (ready c p : ℕ) where
   pub registered : (peeredAt s c p ≡ 0 → ⊥) → peerSound s ready c p ≡ true → Registered s ready c p
   unfolding peerSound _or_
   registered n t =
-      let t1 = both _ _ (rw (ne-eqb (peeredAt s c p) 0 n) at t) in
-      let t2 = both _ _ (t1 .1) in
-      let t3 = both _ _ (t2 .1) in
-      record { marked = n; isReady = eqb-true _ _ (t1 .0); listed = ltb-true _ _ (t2 .0); handle = ltb-true _ _ (t3 .0) }
+      let h = each-of (_ ∷ _ ∷ _ ∷ _ ∷ []) (rw (ne-eqb (peeredAt s c p) 0 n) at t) in
+      search (arith, eqb-true, ltb-true)
 
   pub minor-left : Registered s ready c p → peerSound s ready c p ≡ leb (peerMinorAt s c p) (idAt s p .minor)
   unfolding peerSound _or_ _and_

@@ -2,8 +2,9 @@
 -- Assumes nothing.
 use mathlib.Core.Path.{_≡_, refl, sym, _∙_}
 use mathlib.Core.Bool.{Bool, true, false}
-use mathlib.Core.List.{List}
+use mathlib.Core.List.{List, [], _∷_}
 use Prim.Native.Nat.{ℕ, _+_, _*_, _≤_, _<_}
+use native.Mathlib.Omega.{arith}
 use lib.ListN.{length}
 use lib.Dec.{eqb}
 use borrow.Author.Tests.{ne-eqb, le-leb, leb-true, eqb-true, le-ltb, lt-ltb}
@@ -11,7 +12,7 @@ use Rattle.model.specs.Choice.{pick, _and_}
 use Rattle.model.specs.declared.Request.{Request}
 use Rattle.model.specs.declared.Request.the-variants.{Configure, Unconfigure, Query, Status, Cancel, Malformed}
 use Rattle.model.specs.Memory.{requestType, argumentOf, hasRecords, hasNothing, requestOf, DR-MEM-CONFIGURE, DR-MEM-QUERY, DR-MEM-UNCONF-CANCEL, DR-MEM-UNCONF-STATUS, DR-MEM-UNCONFIGURE}
-use Rattle.model.proofs.Choice.{both, and-false, and-false-right}
+use Rattle.model.proofs.Choice.{and-false, and-false-right, each-of}
 use Rattle.model.specs.Layout.{memoryHeaderBytes, mostRecords, pairBytes}
 
 -- the numbers of a request with records
@@ -22,10 +23,7 @@ pub record Counted (b : List ℕ) : Type 0 where
 
 pub counted : (b : List ℕ) → hasRecords b ≡ true → Counted b
 unfolding hasRecords
-counted b e =
-    let p = both _ _ e in
-    let q = both _ _ (p .1) in
-    record { some = leb-true _ _ (p .0); few = leb-true _ _ (q .0); whole = eqb-true _ _ (q .1) }
+counted b e = let h = each-of (_ ∷ _ ∷ _ ∷ []) e in omega (arith, leb-true, eqb-true)
 
 -- where the argument is in range, the length decides
 pub counted-last : (b : List ℕ) → 1 ≤ argumentOf b → argumentOf b ≤ mostRecords → hasRecords b ≡ eqb (length b) (memoryHeaderBytes + argumentOf b * pairBytes)

@@ -2,23 +2,20 @@
 -- Assumes nothing.
 use mathlib.Core.Path.{_≡_, sym, ap, _∙_}
 use mathlib.Core.Bool.{true}
-use mathlib.Core.List.{List}
+use mathlib.Core.List.{List, [], _∷_}
 use Prim.Native.Nat.{ℕ, _<_, _≤_}
 use native.Mathlib.Omega.{arith}
 use lib.ListN.{length, getD, length-take, List·getD-map}
 use borrow.Author.Tests.{leb-true, eqb-true}
 use Rattle.model.specs.Messages.{Service, serviceOf, noService}
-use Rattle.model.proofs.Choice.{both, every-at}
+use Rattle.model.proofs.Choice.{every-at, each-of}
 use Rattle.services.specs.declared.Row.{Row}
 use Rattle.services.specs.Table.{serviceIn, rowFits, RowFits, noRow, TableRight, RowOf}
 use Rattle.model.specs.Layout.{serviceCount}
 
 row-fits : {row : Row} → rowFits row ≡ true → RowFits row
 unfolding rowFits
-row-fits test =
-    let first = both _ _ test in
-    let rest = both _ _ (first .1) in
-    record { room = leb-true _ _ (first .0); size = eqb-true _ _ (rest .0); zero = rest .1 }
+row-fits test = let h = each-of (_ ∷ _ ∷ _ ∷ []) test in search (arith, leb-true, eqb-true)
 
 pub rule-at : {rows : List Row} → TableRight rows → (v : ℕ) → v < serviceCount → RowOf (getD rows v noRow) (serviceOf v)
 rule-at {rows} rule v h =

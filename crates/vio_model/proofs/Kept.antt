@@ -44,16 +44,7 @@ pub record Able (e : End) : Type 0 where
 
 message-in-range : (subtype id class major minor : ℕ) → subtype < 2 ^ 8 → id < idLimit → class < classLimit → major < versionLimit → minor < versionLimit → InRange (message subtype id class major minor)
 unfolding message
-message-in-range subtype id class major minor a b c d e =
-    record {
-      sessions = b;
-      envelopes = omega arith;
-      subtypes = a;
-      kinds = omega arith;
-      classes = c;
-      minors = e;
-      majors = d;
-    }
+message-in-range subtype id class major minor a b c d e = omega arith
 
 module _ (l : List ℕ) (id major : ℕ) (fits : id < idLimit) (held : holds l major ≡ true) where
   pub asked-keeps : sessionKeeps l (Asked id major (minorOf l major)) ≡ true

@@ -2,7 +2,7 @@
 -- Assumes nothing.
 use mathlib.Core.Path.{_≡_, refl}
 use mathlib.Core.Bool.{Bool, true, false, not}
-use mathlib.Core.List.{List}
+use mathlib.Core.List.{List, [], _∷_}
 use mathlib.Core.Logic.{⊎-elim}
 use Prim.Native.Nat.{ℕ, zero, suc, _%_, _≤_, _<_, max}
 use native.Mathlib.Omega.{arith}
@@ -11,7 +11,7 @@ use lib.ListN.{length}
 use lib.Dec.{leb, ltb, eqb}
 use borrow.Author.Tests.{eqb-true, eq-eqb, ltb-true, lt-ltb, leb-true, leb-false, le-leb, lt-leb, not-true}
 use Rattle.model.specs.Choice.{pick, _and_, _or_, every}
-use Rattle.model.proofs.Choice.{both, clash, every-at, on-pick, pick-true, pick-false, or-false}
+use Rattle.model.proofs.Choice.{clash, every-at, on-pick, pick-true, pick-false, or-false, each-of}
 use Rattle.vio_model.specs.Layout.{versionWords, mostVersions}
 use Rattle.vio_model.specs.Versions.{versionLimit, majorAt, minorAt, countOf, holdsIn, holds, minorIn, minorOf, highestIn, highestBelow, versionKeeps, acceptedList}
 
@@ -121,16 +121,7 @@ pub record VersionRules (l : List ℕ) (i : ℕ) : Type 0 where
 
 pub version-rules : (l : List ℕ) (i : ℕ) → versionKeeps l i ≡ true → VersionRules l i
 unfolding versionKeeps
-version-rules l i t =
-    let a = both _ _ t in
-    let b = both _ _ (a .1) in
-    let c = both _ _ (b .1) in
-    record {
-      from = leb-true _ _ (a .0);
-      below = ltb-true _ _ (b .0);
-      minors = ltb-true _ _ (c .0);
-      fresh = not-true _ (c .1);
-    }
+version-rules l i t = let h = each-of (_ ∷ _ ∷ _ ∷ _ ∷ []) t in search (arith, leb-true, ltb-true, not-true)
 
 -- where the numbers keep the rules, the majors before it decide
 pub version-last : (l : List ℕ) (i : ℕ) → 1 ≤ majorAt l i → majorAt l i < versionLimit → minorAt l i < versionLimit → versionKeeps l i ≡ not (holdsIn l (majorAt l i) i)
@@ -146,14 +137,12 @@ pub record ListRules (l : List ℕ) : Type 0 where
 pub list-rules : (l : List ℕ) → acceptedList l ≡ true → ListRules l
 unfolding acceptedList
 list-rules l t =
-    let a = both _ _ t in
-    let b = both _ _ (a .1) in
-    let c = both _ _ (b .1) in
+    let h = each-of (_ ∷ _ ∷ _ ∷ _ ∷ []) t in
     record {
-      whole = eqb-true _ _ (a .0);
-      some = leb-true _ _ (b .0);
-      few = leb-true _ _ (c .0);
-      each = λ i h. version-rules l i (every-at _ _ i (c .1) h);
+      whole = omega (arith, eqb-true);
+      some = omega (arith, leb-true);
+      few = omega (arith, leb-true);
+      each = λ i k. version-rules l i (every-at (versionKeeps l) _ i (cc) k);
     }
 
 -- where it has 1 to 16 whole versions, each of them decides

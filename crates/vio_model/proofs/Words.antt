@@ -8,7 +8,7 @@ use native.Mathlib.Omega.{arith}
 use lib.ListN.{length}
 use borrow.Author.Tests.{eqb-true, ltb-true, leb-true, eq-eqb, lt-ltb, le-leb}
 use Rattle.model.specs.Choice.{pick, _and_}
-use Rattle.model.proofs.Choice.{both, join}
+use Rattle.model.proofs.Choice.{each-of, all-of}
 use Rattle.vio_model.specs.declared.Session.{Session}
 use Rattle.vio_model.specs.declared.Session.the-variants.{Nothing, Asked, Agreed, Ended}
 use Rattle.vio_model.specs.Layout.{endWords, endedStage, mostVersions, classOf, acceptsOf, stageOf, versionsHeld, sessionIn, sessionOf, versionsOf, sessionWords, withSession}
@@ -57,32 +57,11 @@ pub record SoundFacts (w : List ℕ) : Type 0 where
 
 pub sound-facts : (w : List ℕ) → sound w ≡ true → SoundFacts w
 unfolding sound
-sound-facts w t =
-    let a = both _ _ t in
-    let b = both _ _ (a .1) in
-    let c = both _ _ (b .1) in
-    let d = both _ _ (c .1) in
-    let e = both _ _ (d .1) in
-    let f = both _ _ (e .1) in
-    record {
-      size = eqb-true _ _ (a .0);
-      class = ltb-true _ _ (b .0);
-      accepts = ltb-true _ _ (c .0);
-      stage = leb-true _ _ (d .0);
-      few = leb-true _ _ (e .0);
-      list = f .0;
-      keeps = f .1;
-    }
+sound-facts w t = let h = each-of (_ ∷ _ ∷ _ ∷ _ ∷ _ ∷ _ ∷ _ ∷ []) t in search (arith, eqb-true, ltb-true, leb-true)
 
 pub sound-made : (w : List ℕ) → SoundFacts w → sound w ≡ true
 unfolding sound
-sound-made w f =
-    join _ _ (eq-eqb _ _ (f .size))
-    (join _ _ (lt-ltb _ _ (f .class))
-    (join _ _ (lt-ltb _ _ (f .accepts))
-    (join _ _ (le-leb _ _ (f .stage))
-    (join _ _ (le-leb _ _ (f .few))
-    (join _ _ (f .list) (f .keeps))))))
+sound-made w f = all-of (_ ∷ _ ∷ _ ∷ _ ∷ _ ∷ _ ∷ _ ∷ []) (search (eq-eqb, lt-ltb, le-leb))
 
 -- past the other tests, the session decides
 pub sound-last : (w : List ℕ) → length w ≡ endWords → classOf w < classLimit → acceptsOf w < classLimit → stageOf w ≤ endedStage → versionsHeld w ≤ mostVersions → acceptedList (versionsOf w) ≡ true → sound w ≡ sessionKeeps (versionsOf w) (sessionOf w)
