@@ -11,6 +11,14 @@ use Rattle.vio_message.specs.Words.{InRange, packed, unpacked, withoutRe
 pub unpack-pack : (m : Message) → InRange m → unpacked (packed m) ≡ m
 unfolding packed unpacked
 unpack-pack m p =
+    let n = unpacked (packed m) in
+    let sessions : n .session ≡ m .session = omega arith in
+    let envelopes : n .envelope ≡ m .envelope = omega arith in
+    let subtypes : n .subtype ≡ m .subtype = omega arith in
+    let kinds : n .kind ≡ m .kind = omega arith in
+    let classes : n .class ≡ m .class = omega arith in
+    let minors : n .minor ≡ m .minor = omega arith in
+    let majors : n .major ≡ m .major = omega arith in
     λ i. record {
       session = sessions i;
       envelope = envelopes i;
@@ -20,27 +28,6 @@ unpack-pack m p =
       minor = minors i;
       major = majors i;
     }
-  where
-    sessions : unpacked (packed m) .session ≡ m .session
-    sessions = omega arith
-
-    envelopes : unpacked (packed m) .envelope ≡ m .envelope
-    envelopes = omega arith
-
-    subtypes : unpacked (packed m) .subtype ≡ m .subtype
-    subtypes = omega arith
-
-    kinds : unpacked (packed m) .kind ≡ m .kind
-    kinds = omega arith
-
-    classes : unpacked (packed m) .class ≡ m .class
-    classes = omega arith
-
-    minors : unpacked (packed m) .minor ≡ m .minor
-    minors = omega arith
-
-    majors : unpacked (packed m) .major ≡ m .major
-    majors = omega arith
 
 -- a number's field of j bits at k, with the k bits below it
 field : (n j k : ℕ) → n / 2 ^ k % 2 ^ j * 2 ^ k + n % 2 ^ k ≡ n % 2 ^ (j + k)
@@ -49,69 +36,39 @@ field n j k = omega (arith, mod-pow-add n j k)
 pub pack-unpack : (w : Words) → packed (unpacked w) ≡ withoutReserved w
 unfolding packed unpacked withoutReserved
 pack-unpack w =
-    λ i. record {
-      first = firsts i;
-      second = seconds i;
-    }
-  where
-    firsts : packed (unpacked w) .first ≡ withoutReserved w .first
-    firsts = omega (arith, field (w .first) 16 16, field (w .first) 8 8, split (w .first) 32)
-
-    seconds : packed (unpacked w) .second ≡ withoutReserved w .second
-    seconds = omega (arith, field (w .second) 8 32, field (w .second) 16 16)
+    let v = packed (unpacked w) in
+    let u = withoutReserved w in
+    let firsts : v .first ≡ u .first = omega (arith, field (w .first) 16 16, field (w .first) 8 8, split (w .first) 32) in
+    let seconds : v .second ≡ u .second = omega (arith, field (w .second) 8 32, field (w .second) 16 16) in
+    λ i. record { first = firsts i; second = seconds i }
 
 pub unpacked-in-range : (w : Words) → w .first < 2 ^ 64 → InRange (unpacked w)
 unfolding unpacked
-unpacked-in-range w h =
-    record {
-      sessions = omega arith;
-      envelopes = omega arith;
-      subtypes = omega arith;
-      kinds = omega arith;
-      classes = omega arith;
-      minors = omega arith;
-      majors = omega arith;
-    }
+unpacked-in-range w h = omega arith
 
 sent-zero : (m : Message) → InRange m → withoutReserved (packed m) ≡ packed m
 unfolding packed withoutReserved
 sent-zero m p =
-    λ i. record {
-      first = packed m .first;
-      second = seconds i;
-    }
-  where
-    seconds : withoutReserved (packed m) .second ≡ packed m .second
-    seconds = omega arith
+    let seconds : withoutReserved (packed m) .second ≡ packed m .second = omega arith in
+    λ i. record { first = packed m .first; second = seconds i }
 
 not-read : (w : Words) → unpacked (withoutReserved w) ≡ unpacked w
 unfolding unpacked withoutReserved
 not-read w =
+    let m = unpacked w in
+    let n = unpacked (withoutReserved w) in
+    let classes : n .class ≡ m .class = omega arith in
+    let minors : n .minor ≡ m .minor = omega arith in
+    let majors : n .major ≡ m .major = omega arith in
     λ i. record {
-      session = unpacked w .session;
-      envelope = unpacked w .envelope;
-      subtype = unpacked w .subtype;
-      kind = unpacked w .kind;
+      session = m .session;
+      envelope = m .envelope;
+      subtype = m .subtype;
+      kind = m .kind;
       class = classes i;
       minor = minors i;
       major = majors i;
     }
-  where
-    classes : unpacked (withoutReserved w) .class ≡ unpacked w .class
-    classes = omega arith
-
-    minors : unpacked (withoutReserved w) .minor ≡ unpacked w .minor
-    minors = omega arith
-
-    majors : unpacked (withoutReserved w) .major ≡ unpacked w .major
-    majors = omega arith
 
 pub round-trip : RoundTrip
-round-trip =
-    record {
-      unpackAfterPack = unpack-pack;
-      packAfterUnpack = pack-unpack;
-      unpackedInRange = unpacked-in-range;
-      sentZero = sent-zero;
-      notRead = not-read;
-    }
+round-trip = search (unpack-pack, pack-unpack, unpacked-in-range, sent-zero, not-read)

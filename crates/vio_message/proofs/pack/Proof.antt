@@ -11,7 +11,7 @@ use Rattle.vio_message.proofs.pack.Tie as tie
 returns : tie.Need-returns
 unfolding packed
 returns c =
-    let start : _ = c .before .before .before .before .before .before .before in
+    let start : tie.Start = search in
     let m : _ = start .args .m in
     let p : _ = start .pre in
     let session : _ = shl-exact {a = m .session} 32 32 64 (omega arith) (lit≤ tt) in

@@ -9,7 +9,8 @@ use Rattle.vio_message.proofs.unpack.Tie as tie
 returns : tie.Need-returns
 unfolding unpacked
 returns c =
-    let w : _ = c .before .before .before .before .before .before .before .args .w in
+    let start : tie.Start = search in
+    let w : _ = start .args .w in
     simp (
       and-mask (w .first / 2 ^ 16) 16,
       and-mask (w .first / 2 ^ 8) 8,
