@@ -22,9 +22,9 @@ abbrev μ-loop : tie.MeasureT-loop
 returns : tie.Need-returns Inv-loop μ-loop
 unfolding blockIn
 returns c =
-    let l = c .before .before .before .before .before .before .before .before .loop in
-    every-fails _ _ _ (c .before .before .before .before .before .before .before .loop-test .taken)
-    (rw (← l .inv .1) (no _ (c .before .block-keeps .ensures) (c .if1 .taken)))
+    let t : tie.In-loop Inv-loop μ-loop = search in
+    every-fails _ _ _ (t .loop-test .taken)
+    (rw (← t .before .loop .inv .1) (no _ (c .before .block-keeps .ensures) (c .if1 .taken)))
 
 mul-floor : tie.Need-mul-floor Inv-loop μ-loop
 mul-floor c = let r = block-rules _ _ (yes _ (c .before .block-keeps .ensures) (c .if1 .left)) .0 in omega arith
@@ -35,7 +35,8 @@ add-floor c = let r = block-rules _ _ (yes _ (c .before .block-keeps .ensures) (
 loop-again : tie.Need-loop-again Inv-loop μ-loop
 unfolding blockIn endBefore
 loop-again c =
-    let l = c .before .before .before .before .before .before .before .before .loop in (
+    let t : tie.At-loop Inv-loop μ-loop = search in
+    let l = t .loop in (
       omega arith,
       rw (add-one (l .i)),
       every-more _ _ (l .inv .2) (rw (← l .inv .1) (yes _ (c .before .block-keeps .ensures) (c .if1 .left))),

@@ -1,10 +1,9 @@
 -- `front::channel_sound` meets its contract: the tests of a channel's front, past those that have passed.
 -- Assumes nothing.
 use Prim.Native.Nat.{_≤_}
-use Rattle.front_model.specs.Front.{keptAt, mostKept}
+use Rattle.front_model.specs.Front.{keptAt, mostKept, Front, unfinished}
 use native.Mathlib.Omega.{arith}
 use mathlib.Core.Path.{sym, ap, _∙_}
-use Rattle.front_model.specs.Front.{Front, unfinished}
 use Rattle.front.proofs.Sounds.{sound-many, sound-keeping, sound-marked, sound-dropping}
 use borrow.Author.Needs.{needs}
 use Rattle.front.proofs.channel_sound.Statement.{statement}

@@ -21,11 +21,11 @@ returns c =
     (give-refused _ _ _ _ _ _ _ _ (d .before .before .before .before .before .pre) _ (d .action-refusal .ensures .0) (c .before .if1 .taken))
 
 kept-of-requires : tie.Need-kept-of-requires
-kept-of-requires c κs = c .before .before .before .before .before .before .before .pre .fronts .within
+kept-of-requires c κs = let s : tie.Start = search in s .pre .fronts .within
 
 -- where the kept bytes are counted: the entry, the front, and that the message's end is behind them and within the piece and the room
 abbrev start : tie.After-kept-of → tie.Start
-start c = c .before .before .before .before .before .before .before .before
+start c = search
 
 abbrev front : tie.After-kept-of → Front
 front c = record { words = start c .args .words .now; bytes = start c .args .bytes .now }
@@ -72,20 +72,21 @@ part-of-requires c κs =
       g .comes .most,
     )
 
--- the message, where it is given
-abbrev counted : tie.After-give → tie.After-kept-of
-counted c = c .before .before .before .before .before .before .before .before .before .before .before
+-- the message, where its part is taken
+abbrev counted : tie.After-part-of → tie.After-kept-of
+counted c = c .before .before .before .before .before .before
 
 give-requires : tie.Need-give-requires
 give-requires c κs =
-    start (c .before .before .before .before .before .before .before .before .before .before) .pre .fronts .within
+    let p : tie.After-part-of = search in
+    start (counted p) .pre .fronts .within
 
 returns-2 : tie.Need-returns-2
 returns-2 c =
     let d = c .before .before .before .before .before in
     let p = d .before .before .before .before .before in
     let y = p .before .before .before in
-    let k = counted d in
+    let k = counted p in
     let a = start k .args in
     let g = start k .pre in
     let q = k .kept-of .ensures in

@@ -15,7 +15,7 @@ use Rattle.front.proofs.give_whole.Tie as tie
 
 -- the entry, from the agent's call
 abbrev start : tie.After-give → tie.Start
-start c = c .before .before .before .before .before .before .before .before .before
+start c = search
 
 slice-aggregate-give : tie.Need-slice-aggregate-give
 slice-aggregate-give c =

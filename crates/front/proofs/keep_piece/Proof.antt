@@ -17,7 +17,7 @@ returns c =
 
 -- where the kept bytes are counted: the entry, and that there is room for the piece
 abbrev start : tie.After-kept-of → tie.Start
-start c = c .before .before .before .before .before .before .before
+start c = search
 
 room : (c : tie.After-kept-of) → c .kept-of .result + length (start c .args .piece .now) ≤ mostKept
 room c =

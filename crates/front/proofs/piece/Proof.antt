@@ -22,7 +22,7 @@ returns-2 c =
 
 -- the front is sound and the channel in range
 abbrev start : tie.Else2 → tie.Start
-start c = c .before .before .before .before .before .before .before .before
+start c = search
 
 fronts : (c : tie.Else2) → Fronts (record { words = start c .args .words .now; bytes = start c .args .bytes .now }) (start c .args .channel)
 fronts c =

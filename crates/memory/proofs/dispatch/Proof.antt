@@ -10,13 +10,25 @@ use Rattle.memory.proofs.dispatch.Statement.{statement}
 use Rattle.memory.proofs.dispatch.Tie as tie
 
 hear-configure-requires : tie.Need-hear-configure-requires
-hear-configure-requires c κs = let k = formed _ (Configure _) (c .before .before .before .before .before .before .before .pre .2) (c .before .before .before .asked .given .1) in (sound-in-order _ (c .before .before .before .before .before .before .before .pre .0), k .0, k .1, omega arith)
+hear-configure-requires c κs =
+    let s : tie.Start = search in
+    let p = s .pre in
+    let k = formed _ (Configure _) (p .2) (c .before .before .before .asked .given .1) in
+    (sound-in-order _ (p .0), k .0, k .1, omega arith)
 
 hear-unconfigure-requires : tie.Need-hear-unconfigure-requires
-hear-unconfigure-requires c κs = let k = formed _ (Unconfigure _) (c .before .before .before .before .before .before .before .pre .2) (c .before .before .before .asked2 .given .1) in (sound-in-order _ (c .before .before .before .before .before .before .before .pre .0), k .0, k .1, omega arith)
+hear-unconfigure-requires c κs =
+    let s : tie.Start = search in
+    let p = s .pre in
+    let k = formed _ (Unconfigure _) (p .2) (c .before .before .before .asked2 .given .1) in
+    (sound-in-order _ (p .0), k .0, k .1, omega arith)
 
 query-requires : tie.Need-query-requires
-query-requires c κs = let k = formed _ (Query _) (c .before .before .before .before .before .before .before .pre .2) (c .before .before .before .asked3 .given .1) in (c .before .before .before .before .before .before .before .pre .0, k .0, k .1, omega arith)
+query-requires c κs =
+    let s : tie.Start = search in
+    let p = s .pre in
+    let k = formed _ (Query _) (p .2) (c .before .before .before .asked3 .given .1) in
+    (p .0, k .0, k .1, omega arith)
 
 returns : tie.Need-returns
 returns c = rw (c .before .before .before .before .before .before .asked .given .1) (c .before .before .hear-configure .ensures)

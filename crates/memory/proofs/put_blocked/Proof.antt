@@ -1,8 +1,7 @@
 use Rattle.memory.proofs.Laws.{pair-same}
-use mathlib.Core.Path.{_∙_}
+use mathlib.Core.Path.{_∙_, _≡_, refl}
 use native.Mathlib.Omega.{arith}
 use Prim.Native.Nat.{_≤_, _-_}
-use mathlib.Core.Path.{_≡_, refl}
 use lib.ListN.{length}
 use lib.Seq.{sets}
 use Rattle.model.specs.Choice.{joined}
@@ -20,7 +19,7 @@ abbrev μ-loop : tie.MeasureT-loop
 μ-loop state b n out₀ i₀ out i = n - i
 
 put-result-requires : tie.Need-put-result-requires Inv-loop μ-loop
-put-result-requires c κs = (omega arith, c .before .before .before .before .before .before .before .pre .0, omega arith)
+put-result-requires c κs = let s : tie.Start Inv-loop μ-loop = search in (omega arith, s .pre .0, omega arith)
 
 loop-again : tie.Need-loop-again Inv-loop μ-loop
 loop-again c =

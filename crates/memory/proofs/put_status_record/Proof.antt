@@ -1,5 +1,4 @@
 use native.Mathlib.Omega.{arith}
-use native.Mathlib.Omega.{arith}
 use Rattle.model.specs.Layout.{removalOf}
 use Rattle.memory.proofs.Laws.{told-some, told-settled}
 use borrow.Author.Needs.{needs}
@@ -8,7 +7,7 @@ use Rattle.memory.proofs.put_status_record.Tie as tie
 
 returns : tie.Need-returns
 returns c =
-    let s = c .before .before .before .before .before .before .before in
+    let s : tie.After-put64 = search in
     let p = s .before .before .before .before .before in
     let e = p .before .before .pre in
     told-some _ _ (e .2) (e .0) (p .position-of .ensures) (s .before .before .before .before .count-of .ensures) (s .before .before .before .if1 .taken) (s .before .size-of .ensures) (c .before .before .before .collected-of .ensures) (s .put64 .ensures) (c .before .before .put642 .ensures)

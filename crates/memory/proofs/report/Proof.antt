@@ -1,5 +1,4 @@
 use native.Mathlib.Omega.{arith}
-use native.Mathlib.Omega.{arith}
 use lib.ListN.{length-take, length-drop}
 use Rattle.model.proofs.Loops.{no, yes}
 use Rattle.model.proofs.Replies.{status-length}

@@ -1,9 +1,8 @@
 -- `peers::count` meets its contract: the marks passed are counted, one at most for each.
 -- Assumes nothing.
-use Prim.Native.Nat.{ℕ}
+use Prim.Native.Nat.{ℕ, _≤_, _-_}
 use native.Mathlib.Omega.{arith}
 use mathlib.Core.Path.{_≡_, sym, ap, _∙_}
-use Prim.Native.Nat.{_≤_, _-_}
 use native.Mathlib.Nat.{le-antisymm}
 use Rattle.model.specs.Layout.{marksAt, mostIds}
 use Rattle.model.specs.Peers.{peersBelow}

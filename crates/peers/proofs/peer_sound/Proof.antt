@@ -27,7 +27,10 @@ returns-4 : tie.Need-returns-4
 returns-4 c = refute _ (λ t. let r = registered _ _ _ _ (marked (c .before .before .before .before .before)) t in omega (arith, r .handle, c .before .handle-of .ensures))
 
 -- past the tests of a registration
-all : (c : tie.Else4) → Registered (c .before .before .before .before .before .before .before .args .state .now) (c .before .before .before .before .before .before .before .args .ready) (c .before .before .before .before .before .before .before .args .channel) (c .before .before .before .before .before .before .before .args .p)
+abbrev start : tie.Else4 → tie.Start
+start c = search
+
+all : (c : tie.Else4) → let a = start c .args in Registered (a .state .now) (a .ready) (a .channel) (a .p)
 all c = record {
   marked = marked (c .before .before .before .before .before);
   isReady = omega arith;

@@ -5,14 +5,14 @@ use borrow.Author.Needs.{needs}
 use Rattle.queries.proofs.put_query_record.Statement.{statement}
 use Rattle.queries.proofs.put_query_record.Tie as tie
 
-abbrev after-first : tie.After-slice-known4 → tie.After-put64
-after-first c = c .before .before .before .before .before .before .before .before .before .before
-
 returns : tie.Need-returns
 returns c =
-    let f = after-first c in
-    let r = f .before .before .permanent-of .ensures in
-    query-stored _ _ _ _ (f .before .before .before .before .pre .1) (r .bytes, r .first) (f .put64 .ensures) (c .before .before .before .before .before .before .put642 .ensures) (c .before .before .put-range .ensures)
+    let b : tie.After-put642 = search in
+    let a = b .before .before .before .before in
+    let p = a .before .before in
+    let r = p .permanent-of .ensures in
+    query-stored _ _ _ _ (p .before .before .pre .1) (r .bytes, r .first) (a .put64 .ensures) (b .put642 .ensures)
+    (c .before .before .put-range .ensures)
 
 pub put-query-record-spec : {M : Type 1} → statement M
 put-query-record-spec = tie.close (tie.spec

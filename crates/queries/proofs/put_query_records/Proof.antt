@@ -20,14 +20,22 @@ abbrev μ-loop : tie.MeasureT-loop
 μ-loop state b n out₀ i₀ out i = n - i
 
 put-query-record-requires : tie.Need-put-query-record-requires Inv-loop μ-loop
-put-query-record-requires c κs = (c .before .before .before .before .before .before .before .pre .0, simp (length-take, length-drop) (omega arith))
+put-query-record-requires c κs =
+    let s : tie.Start Inv-loop μ-loop = search in
+    (s .pre .0, simp (length-take, length-drop) (omega arith))
 
 loop-again : tie.Need-loop-again Inv-loop μ-loop
 loop-again c =
-    let l = c .before .before .before .before .before .before .before .loop in
-    let fits : replyHeaderBytes + l .i * queryBytes + queryBytes ≤ length (l .out) = omega arith in
-    let span : replyHeaderBytes + l .i * queryBytes + queryBytes - (replyHeaderBytes + l .i * queryBytes) ≡ queryBytes = omega arith in
-    (omega arith, omega arith, record-more _ queryBytes (λ i. query-length _ _ _) _ _ _ _ _ (l .inv .2) (c .before .before .put-query-record .ensures ∙ rw (c .before .before .before .before .before .address .ensures, c .before .before .before .before .size .ensures)) span fits)
+    let s = c .before .before .before .before in
+    let l = s .before .before .before .loop in
+    let at = replyHeaderBytes + l .i * queryBytes in
+    let fits : at + queryBytes ≤ length (l .out) = omega arith in
+    let span : at + queryBytes - at ≡ queryBytes = omega arith in (
+      omega arith,
+      omega arith,
+      record-more _ queryBytes (λ i. query-length _ _ _) _ _ _ _ _ (l .inv .2)
+          (c .before .before .put-query-record .ensures ∙ rw (s .before .address .ensures, s .size .ensures)) span fits,
+    )
 
 returns : tie.Need-returns Inv-loop μ-loop
 returns c =

@@ -45,7 +45,10 @@ returns-7 c = rw (c .before .before .enum-told3 .given .1) (silent-handles _ (c 
 
 returns-8 : tie.Need-returns-8
 unfolding heard
-returns-8 c = rw (c .before .before .before .before .before .before .before .decoded5 .given .1, ← c .before .before .before .before .payload .ensures) (c .before .before .take-data .ensures)
+returns-8 c =
+    let d : tie.After-decoded5 = search in
+    rw (d .decoded5 .given .1, ← c .before .before .before .before .payload .ensures)
+    (c .before .before .take-data .ensures)
 
 returns-9 : tie.Need-returns-9
 unfolding heard

@@ -5,7 +5,6 @@ use Rattle.model.specs.Memory.{resultRecord}
 use Rattle.model.proofs.Replies.{result-length}
 use Rattle.records.proofs.Parts.{record-put}
 use native.Mathlib.Omega.{arith}
-use native.Mathlib.Omega.{arith}
 use borrow.Author.Needs.{needs}
 use Rattle.records.proofs.put_result.Statement.{statement}
 use Rattle.records.proofs.put_result.Tie as tie

@@ -19,7 +19,7 @@ returns c =
 
 -- the start, the handle read and its tests, where the id is looked for
 abbrev start : tie.After-id-of → tie.Start
-start c = c .before .before .before .before .before .before .before .before
+start c = search
 
 handle-of : (c : tie.After-id-of) → c .before .before .before .before .before .get64 .result ≡ regHandle (start c .args .message .now)
 handle-of c = c .before .before .before .before .before .get64 .ensures
@@ -32,7 +32,7 @@ found-of : (c : tie.After-listed-id) (x : Found) → c .listed-id .result ≡ x 
 found-of c x e = rw (← c .before .id-of .ensures) (sym (c .listed-id .ensures) ∙ e)
 
 listed-id-requires : tie.Need-listed-id-requires
-listed-id-requires c κs = sound-facts _ (c .before .before .before .before .before .before .before .before .pre .0) .ids
+listed-id-requires c κs = let s : tie.Start = search in sound-facts _ (s .pre .0) .ids
 
 register-listed-requires : tie.Need-register-listed-requires
 register-listed-requires c κs =

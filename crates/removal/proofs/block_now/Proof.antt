@@ -1,6 +1,5 @@
 use Rattle.model.specs.Layout.{removalOf}
 use native.Mathlib.Omega.{arith}
-use native.Mathlib.Omega.{arith}
 use mathlib.Core.Path.{_∙_}
 use Rattle.removal.proofs.Laws.{block-read}
 use borrow.Author.Needs.{needs}

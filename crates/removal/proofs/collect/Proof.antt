@@ -1,13 +1,19 @@
 use Rattle.model.specs.Layout.{removalOf}
 use native.Mathlib.Omega.{arith}
-use native.Mathlib.Omega.{arith}
 use Rattle.removal.proofs.Laws.{removal-kept, held-kept, collects-last, collects-some}
 use borrow.Author.Needs.{needs}
 use Rattle.removal.proofs.collect.Statement.{statement}
 use Rattle.removal.proofs.collect.Tie as tie
 
 settle-requires : tie.Need-settle-requires
-settle-requires c κs = let g = c .before in let p = g .before .before .before .before .before .before .before .pre in (held-kept _ _ (p .1) (g .set-configured .ensures) (p .0), rw (removal-kept _ _ (p .1) (g .set-configured .ensures)) (p .2), p .1)
+settle-requires c κs =
+    let g = c .before in
+    let s : tie.Start = search in
+    let p = s .pre in (
+      held-kept _ _ (p .1) (g .set-configured .ensures) (p .0),
+      rw (removal-kept _ _ (p .1) (g .set-configured .ensures)) (p .2),
+      p .1,
+    )
 
 returns : tie.Need-returns
 unfolding removalOf

@@ -1,6 +1,5 @@
 use Rattle.model.specs.Layout.{removalOf}
 use native.Mathlib.Omega.{arith}
-use native.Mathlib.Omega.{arith}
 use mathlib.Core.Path.{sym, ap, _∙_}
 use Rattle.model.specs.Work.{failingCode}
 use Rattle.removal_state.proofs.Laws.{cancelled-is}

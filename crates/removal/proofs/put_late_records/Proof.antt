@@ -22,7 +22,7 @@ result-at-requires : tie.Need-result-at-requires Inv-loop μ-loop
 result-at-requires c κs = (omega arith, c .before .before .before .before .before .pre .2)
 
 put-result-requires : tie.Need-put-result-requires Inv-loop μ-loop
-put-result-requires c κs = (omega arith, c .before .before .before .before .before .before .before .pre .0, omega arith)
+put-result-requires c κs = let s : tie.Start Inv-loop μ-loop = search in (omega arith, s .pre .0, omega arith)
 
 loop-again : tie.Need-loop-again Inv-loop μ-loop
 loop-again c =

@@ -1,5 +1,4 @@
 use native.Mathlib.Omega.{arith}
-use native.Mathlib.Omega.{arith}
 use Rattle.model.specs.Layout.{removalOf}
 use Rattle.removal_state.proofs.Laws.{count-is, handle-is, request-is}
 use Rattle.removal.proofs.Laws.{late-written}
@@ -13,7 +12,8 @@ put-results-header-requires c κs = let p = c .before .before .before .before .b
 
 put-late-records-requires : tie.Need-put-late-records-requires
 unfolding removalOf
-put-late-records-requires c κs = let p = c .before .before .before .before .before .before .before .before .before .pre in (p .0 .blocks, omega (arith, p .0 .records), p .1, omega arith)
+put-late-records-requires c κs = let s : tie.Start = search in let p = s .pre in
+    (p .0 .blocks, omega (arith, p .0 .records), p .1, omega arith)
 
 returns : tie.Need-returns
 returns c = let h = c .before .before .before .before .before .before in let q = h .before .before in let p = q .before .before .before .before .pre in late-written _ _ (count-is _ (q .before .before .count-of .ensures)) (handle-is _ (q .before .handle-of .ensures)) (request-is _ (q .request-of .ensures)) (p .0 .records) (p .2) (h .put-results-header .ensures) (c .before .before .put-late-records .ensures)

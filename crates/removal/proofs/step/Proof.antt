@@ -1,5 +1,4 @@
 use native.Mathlib.Omega.{arith}
-use native.Mathlib.Omega.{arith}
 use mathlib.Core.Path.{sym, _∙_}
 use Rattle.removal.proofs.Laws.{facts, fits, can-work, step-over, step-found}
 use borrow.Author.Needs.{needs}
@@ -19,7 +18,11 @@ work-found-requires : tie.Need-work-found-requires
 work-found-requires c κs = let t = c .before .before .before .before in let p = t .before .before .before .before .pre in (can-work _ (p .0) (p .1) (sym (t .before .is-over .ensures) ∙ t .if1 .left), sym (c .before .before .block-now .ensures), p .2)
 
 returns-2 : tie.Need-returns-2
-returns-2 c = let t = c .before .before .before .before .before .before .before in step-found _ _ _ (sym (t .before .is-over .ensures) ∙ t .if1 .left) (c .before .before .before .before .before .block-now .ensures) (c .before .before .work-found .ensures)
+returns-2 c =
+    let t : tie.Else1 = search in
+    let b : tie.After-block-now = search in
+    step-found _ _ _ (sym (t .before .is-over .ensures) ∙ t .if1 .left) (b .block-now .ensures)
+    (c .before .before .work-found .ensures)
 
 pub step-spec : {M : Type 1} → statement M
 step-spec = tie.close (tie.spec

@@ -1,7 +1,6 @@
 use Rattle.model.specs.Choice.{_and_}
 use Rattle.model.specs.Layout.{removalOf}
 use native.Mathlib.Omega.{arith}
-use native.Mathlib.Omega.{arith}
 use borrow.Author.Tests.{eq-eqb, ne-eqb}
 use Rattle.removal_state.proofs.Laws.{channel-is, handle-is}
 use borrow.Author.Needs.{needs}

@@ -1,6 +1,5 @@
 use Rattle.model.specs.Layout.{removalOf}
 use native.Mathlib.Omega.{arith}
-use native.Mathlib.Omega.{arith}
 use mathlib.Core.Path.{sym, _∙_}
 use Rattle.removal_state.proofs.Laws.{collected-is}
 use Rattle.removal.proofs.Laws.{works-nowork, works-collects}
@@ -13,7 +12,9 @@ returns c = let t = c .before .before in works-nowork _ _ _ _ (sym (t .before .c
 
 pages-moved-requires : tie.Need-pages-moved-requires
 unfolding removalOf
-pages-moved-requires c κs = omega (arith, c .collected-of .ensures, c .before .before .pages-of .ensures, c .before .before .before .before .before .before .before .pre .1 .remain)
+pages-moved-requires c κs =
+    let s : tie.Start = search in
+    omega (arith, c .collected-of .ensures, c .before .before .pages-of .ensures, s .pre .1 .remain)
 
 collect-requires : tie.Need-collect-requires
 unfolding removalOf

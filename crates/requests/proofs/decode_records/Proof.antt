@@ -14,10 +14,18 @@ returns-3 : tie.Need-returns-3
 returns-3 c = let p = c .before .before .before .before .before .before .pre in unconfigure-is _ (p .0) _ (p .1) _ (c .before .before .get32 .ensures .0) (c .if3 .taken) (yes _ (c .before .before .before .before .has-records .ensures) (c .before .before .before .if1 .left))
 
 returns-4 : tie.Need-returns-4
-returns-4 c = let p = c .before .before .before .before .before .before .before .pre in query-is _ (p .0) _ (p .1) _ (c .before .before .before .get32 .ensures .0) (c .if4 .taken) (yes _ (c .before .before .before .before .before .has-records .ensures) (c .before .before .before .before .if1 .left))
+returns-4 c =
+    let s : tie.Start = search in
+    let p = s .pre in
+    let e : tie.Else1 = search in
+    query-is _ (p .0) _ (p .1) _ (c .before .before .before .get32 .ensures .0) (c .if4 .taken)
+    (yes _ (e .before .has-records .ensures) (e .if1 .left))
 
 returns-5 : tie.Need-returns-5
-returns-5 c = let p = c .before .before .before .before .before .before .before .pre in other-is _ (p .0) _ (p .1) (p .2) (p .3) (c .before .before .if2 .left) (c .before .if3 .left) (c .if4 .left)
+returns-5 c =
+    let s : tie.Start = search in
+    let p = s .pre in
+    other-is _ (p .0) _ (p .1) (p .2) (p .3) (c .before .before .if2 .left) (c .before .if3 .left) (c .if4 .left)
 
 pub decode-records-spec : {M : Type 1} → statement M
 decode-records-spec =
