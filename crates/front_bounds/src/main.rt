@@ -1,5 +1,6 @@
-// The boundaries of 02's ticket 9 that no list of calls reaches: on fronts made by hand each way in which a front is not sound, beside the soundest neighbour of each.
-use calls::answers;
+// The boundaries of 02's ticket 9 that no list of calls reaches: on fronts made by hand each way in which a front is
+// not sound, beside the soundest neighbour of each.
+use answer_lines::answers;
 use front_model::FRONT_BYTES;
 use front_model::FRONT_WORDS;
 use front_model::FrontBytes;
@@ -7,10 +8,15 @@ use front_model::FrontWords;
 use front_model::MOST_KEPT;
 use front_model::MOST_MESSAGE;
 use front_model::PART_WORDS;
+use lines::fields::same;
 use lines::outcome::report_failure;
 use lines::output;
+use lines::output::Gathered;
 use lines::output::TEXT_BYTES;
 use lines::output::Text;
+use lines::output::put_if;
+use lines::output::put_text;
+use lines::parts::are_same;
 use model::HELD_WORD;
 use model::JOURNAL_WORDS;
 use model::LAST_WORD;
@@ -18,6 +24,9 @@ use model::MOST_HELD;
 use model::MOST_PAYLOAD;
 use model::OUTPUT_BYTES;
 use model::State;
+ghost use Prim.Native.Nat.{_≤_};
+ghost use lib.ListN.{length};
+ghost use Rattle.lines.specs.Forms.{mostForm};
 
 // Where the words and the room of channel 2 begin.
 const WORDS: usize = 2 * PART_WORDS;
@@ -38,7 +47,8 @@ fn new_state() -> State {
     started.state
 }
 
-// A front of which channel 2 has these words, and in its room the beginning of a message of type 0x63, which no message has, with this payload_len.
+// A front of which channel 2 has these words, and in its room the beginning of a message of type 0x63, which no
+// message has, with this payload_len.
 fn words_of(kept: usize, dropping: u64) -> FrontWords {
     let mut words = [0u64; FRONT_WORDS];
     words[WORDS] = kept as u64;
@@ -61,37 +71,23 @@ fn bytes_of(payload_len: u32) -> FrontBytes {
     bytes
 }
 
-fn words_differ(a: &FrontWords, b: &FrontWords) -> bool {
-    let mut i: usize = 0;
-    while i < FRONT_WORDS {
-        if a[i] != b[i] {
-            return true;
-        }
-        i += 1;
-    }
-    false
+fn has_same_words(a: &FrontWords, b: &FrontWords) -> bool {
+    are_same(a, b)
 }
 
-fn bytes_differ(a: &FrontBytes, b: &FrontBytes) -> bool {
-    let mut i: usize = 0;
-    while i < FRONT_BYTES {
-        if a[i] != b[i] {
-            return true;
-        }
-        i += 1;
-    }
-    false
+fn has_same_bytes(a: &FrontBytes, b: &FrontBytes) -> bool {
+    same(a, b)
 }
 
-// A piece of one byte on a channel; a line where a refused one changed the front.
+// A piece of one byte on a channel.
 fn piece(
+    text: &mut Text,
+    gathered: Gathered,
     words: &FrontWords,
     bytes: &FrontBytes,
     state: &State,
     channel: usize,
-    text: &mut Text,
-    used: &mut usize,
-) {
+) -> Gathered {
     let mut new_words = *words;
     let mut new_bytes = *bytes;
     let mut new_state = *state;
@@ -106,142 +102,170 @@ fn piece(
         &mut journal,
         &mut out,
     );
-    answers::pieced(text, used, a, &out);
-    if (a.refusal != 0) & (words_differ(words, &new_words) | bytes_differ(bytes, &new_bytes)) {
-        output::put(text, used, b"the front has changed\n");
-    }
+    let next = answers::put_piece(text, gathered, a, &out);
+    let is_same = has_same_words(words, &new_words) & has_same_bytes(bytes, &new_bytes);
+    put_if(
+        text,
+        next,
+        (a.refusal != 0) & !is_same,
+        b"the front has changed",
+    )
 }
 
 fn reopen(
+    text: &mut Text,
+    gathered: Gathered,
     words: &FrontWords,
     bytes: &FrontBytes,
     state: &State,
     channel: usize,
-    text: &mut Text,
-    used: &mut usize,
-) {
+) -> Gathered {
     let mut new_words = *words;
     let refusal = front::reopen(&mut new_words, bytes, state, channel);
-    answers::reopened(text, used, refusal);
-    if (refusal != 0) & words_differ(words, &new_words) {
-        output::put(text, used, b"the front has changed\n");
-    }
+    let next = answers::put_reopened(text, gathered, refusal);
+    let is_same = has_same_words(words, &new_words);
+    put_if(
+        text,
+        next,
+        (refusal != 0) & !is_same,
+        b"the front has changed",
+    )
 }
 
 // A front of which channel 2 is so: a piece there and on channel 0, and a reopening of each.
 fn each_call(
+    text: &mut Text,
+    gathered: Gathered,
     name: &[u8],
     kept: usize,
     dropping: u64,
     payload_len: u32,
-    text: &mut Text,
-    used: &mut usize,
-) {
+) -> Gathered
+    requires { ⌜ length (now name) ≤ mostForm ⌝ }
+{
     let words = words_of(kept, dropping);
     let bytes = bytes_of(payload_len);
     let state = new_state();
-    output::put(text, used, name);
-    piece(&words, &bytes, &state, 2, text, used);
-    piece(&words, &bytes, &state, 0, text, used);
-    reopen(&words, &bytes, &state, 2, text, used);
-    reopen(&words, &bytes, &state, 0, text, used);
+    let mut next = put_text(text, gathered, name);
+    next = piece(text, next, &words, &bytes, &state, 2);
+    next = piece(text, next, &words, &bytes, &state, 0);
+    next = reopen(text, next, &words, &bytes, &state, 2);
+    reopen(text, next, &words, &bytes, &state, 0)
 }
 
-fn kept_bytes(text: &mut Text, used: &mut usize) {
-    each_call(b"# nothing kept\n", 0, 0, 0, text, used);
-    each_call(
-        b"# 7 bytes kept, then the eighth: a payload_len above 4096\n",
+// Fewer bytes kept than a header, and a header with a short message.
+fn short_messages(text: &mut Text, gathered: Gathered) -> Gathered {
+    let mut next = gathered;
+    next = each_call(text, next, b"# nothing kept", 0, 0, 0);
+    next = each_call(
+        text,
+        next,
+        b"# 7 bytes kept, then the eighth: a payload_len above 4096",
         7,
         0,
         PAYLOAD + 256,
-        text,
-        used,
     );
-    each_call(b"# 8 bytes kept, payload_len 1\n", 8, 0, 1, text, used);
-    each_call(b"# 8 bytes kept, payload_len 2\n", 8, 0, 2, text, used);
-    each_call(
-        b"# 8 bytes kept, payload_len 0: a whole message\n",
+    next = each_call(text, next, b"# 8 bytes kept, payload_len 1", 8, 0, 1);
+    each_call(text, next, b"# 8 bytes kept, payload_len 2", 8, 0, 2)
+}
+
+// As many bytes kept as a message has, and more.
+fn whole_messages(text: &mut Text, gathered: Gathered) -> Gathered {
+    let mut next = gathered;
+    next = each_call(
+        text,
+        next,
+        b"# 8 bytes kept, payload_len 0: a whole message",
         8,
         0,
         0,
-        text,
-        used,
     );
-    each_call(
-        b"# 9 bytes kept, payload_len 1: a whole message\n",
+    next = each_call(
+        text,
+        next,
+        b"# 9 bytes kept, payload_len 1: a whole message",
         9,
         0,
         1,
-        text,
-        used,
     );
     each_call(
-        b"# 10 bytes kept, payload_len 1: more than a message\n",
+        text,
+        next,
+        b"# 10 bytes kept, payload_len 1: more than a message",
         10,
         0,
         1,
+    )
+}
+
+// The longest message, and a longer one.
+fn long_messages(text: &mut Text, gathered: Gathered) -> Gathered {
+    let mut next = gathered;
+    next = each_call(
         text,
-        used,
-    );
-    each_call(
-        b"# 8 bytes kept, payload_len 4096\n",
+        next,
+        b"# 8 bytes kept, payload_len 4096",
         8,
         0,
         PAYLOAD,
-        text,
-        used,
     );
     each_call(
-        b"# 8 bytes kept, payload_len 4097\n",
+        text,
+        next,
+        b"# 8 bytes kept, payload_len 4097",
         8,
         0,
         PAYLOAD + 1,
+    )
+}
+
+// All bytes but the last of the longest message kept, all of it, and all that there is room for.
+fn full_room(text: &mut Text, gathered: Gathered) -> Gathered {
+    let mut next = gathered;
+    next = each_call(
         text,
-        used,
-    );
-    each_call(
-        b"# 4103 bytes kept, payload_len 4096\n",
+        next,
+        b"# 4103 bytes kept, payload_len 4096",
         MOST_KEPT,
         0,
         PAYLOAD,
-        text,
-        used,
     );
-    each_call(
-        b"# 4104 bytes kept, payload_len 4096\n",
+    next = each_call(
+        text,
+        next,
+        b"# 4104 bytes kept, payload_len 4096",
         MOST_MESSAGE,
         0,
         PAYLOAD,
-        text,
-        used,
     );
     each_call(
-        b"# 4104 bytes kept, payload_len 4097\n",
+        text,
+        next,
+        b"# 4104 bytes kept, payload_len 4097",
         MOST_MESSAGE,
         0,
         PAYLOAD + 1,
-        text,
-        used,
-    );
+    )
 }
 
-fn marks(text: &mut Text, used: &mut usize) {
-    each_call(b"# dropping\n", 0, 1, 0, text, used);
-    each_call(b"# dropping, and a byte kept\n", 1, 1, 0, text, used);
-    each_call(b"# a mark of 2\n", 0, 2, 0, text, used);
+fn marks(text: &mut Text, gathered: Gathered) -> Gathered {
+    let mut next = gathered;
+    next = each_call(text, next, b"# dropping", 0, 1, 0);
+    next = each_call(text, next, b"# dropping, and a byte kept", 1, 1, 0);
+    each_call(text, next, b"# a mark of 2", 0, 2, 0)
 }
 
-// An unsound front and lent runs that are too short; an unsound state; 64 entries held, where a piece that gives no message is taken.
-fn refusals(text: &mut Text, used: &mut usize) {
+// An unsound front and lent runs that are too short.
+fn unsound_front(text: &mut Text, gathered: Gathered) -> Gathered {
     let mut words = words_of(8, 0);
     let mut bytes = bytes_of(0);
     let mut state = new_state();
     let mut journal = [0u64; JOURNAL_WORDS - 1];
     let mut out = [0u8; OUTPUT_BYTES - 1];
-    output::put(
+    let mut next = put_text(
         text,
-        used,
-        b"# an unsound front, 127 words of journal, 2591 bytes of output, channel 4\n",
+        gathered,
+        b"# an unsound front, 127 words of journal, 2591 bytes of output, channel 4",
     );
     let a = front::piece(
         &mut words,
@@ -252,47 +276,57 @@ fn refusals(text: &mut Text, used: &mut usize) {
         &mut journal,
         &mut out,
     );
-    answers::pieced(text, used, a, &out);
-    reopen(&words, &bytes, &state, 4, text, used);
-    let mut unsound = new_state();
-    unsound[HELD_WORD] = 2;
-    output::put(
-        text,
-        used,
-        b"# a sound front and an unsound state, channel 2 and channel 4\n",
-    );
-    piece(&words_of(0, 0), &bytes, &unsound, 2, text, used);
-    piece(&words_of(0, 0), &bytes, &unsound, 4, text, used);
-    reopen(&words_of(0, 0), &bytes, &unsound, 2, text, used);
-    reopen(&words_of(0, 0), &bytes, &unsound, 4, text, used);
+    next = answers::put_piece(text, next, a, &out);
+    reopen(text, next, &words, &bytes, &state, 4)
 }
 
-// With 64 entries held a piece that gives a message is refused by 4, one that gives none is taken, and so is a reopening.
-fn held(text: &mut Text, used: &mut usize) {
+// A sound front, and an unsound state.
+fn unsound_state(text: &mut Text, gathered: Gathered) -> Gathered {
+    let words = words_of(0, 0);
+    let bytes = bytes_of(0);
+    let mut unsound = new_state();
+    unsound[HELD_WORD] = 2;
+    let mut next = put_text(
+        text,
+        gathered,
+        b"# a sound front and an unsound state, channel 2 and channel 4",
+    );
+    next = piece(text, next, &words, &bytes, &unsound, 2);
+    next = piece(text, next, &words, &bytes, &unsound, 4);
+    next = reopen(text, next, &words, &bytes, &unsound, 2);
+    reopen(text, next, &words, &bytes, &unsound, 4)
+}
+
+// With 64 entries held a piece that gives a message is refused by 4, one that gives none is taken, and so is a
+// reopening.
+fn held(text: &mut Text, gathered: Gathered) -> Gathered {
     let mut state = new_state();
     state[LAST_WORD] = MOST_HELD;
     state[HELD_WORD] = MOST_HELD;
     let bytes = bytes_of(1);
-    output::put(
+    let mut next = put_text(
         text,
-        used,
-        b"# 64 entries held: the last byte of a message, a byte within one, one that is dropped, a reopening\n",
+        gathered,
+        b"# 64 entries held: the last byte of a message, a byte within one, one that is dropped, a reopening",
     );
-    piece(&words_of(8, 0), &bytes, &state, 2, text, used);
-    piece(&words_of(7, 0), &bytes_of(256), &state, 2, text, used);
-    piece(&words_of(0, 1), &bytes, &state, 2, text, used);
-    reopen(&words_of(8, 0), &bytes, &state, 2, text, used);
+    next = piece(text, next, &words_of(8, 0), &bytes, &state, 2);
+    next = piece(text, next, &words_of(7, 0), &bytes_of(256), &state, 2);
+    next = piece(text, next, &words_of(0, 1), &bytes, &state, 2);
+    reopen(text, next, &words_of(8, 0), &bytes, &state, 2)
 }
 
 fn main() {
     let mut text = [0u8; TEXT_BYTES];
-    let mut used: usize = 0;
-    kept_bytes(&mut text, &mut used);
-    marks(&mut text, &mut used);
-    refusals(&mut text, &mut used);
-    held(&mut text, &mut used);
-    output::flush(&text, &mut used);
-    if output::has_failed(used) {
+    let mut next = output::none();
+    next = short_messages(&mut text, next);
+    next = whole_messages(&mut text, next);
+    next = long_messages(&mut text, next);
+    next = full_room(&mut text, next);
+    next = marks(&mut text, next);
+    next = unsound_front(&mut text, next);
+    next = unsound_state(&mut text, next);
+    next = held(&mut text, next);
+    if output::flush(&text, next).failed {
         report_failure(b"front_bounds", b"the output cannot be written");
     }
 }

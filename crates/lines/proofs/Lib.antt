@@ -4,3 +4,4 @@ mod Counted
 mod Digits
 mod Numbers
 mod Bytes
+mod Puts

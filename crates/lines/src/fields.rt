@@ -215,3 +215,22 @@ pub fn same(a: &[u8], b: &[u8]) -> bool
     }
     true
 }
+
+// The numbers of all fields of a part of a line, at the start of the list. Each field begins with its space.
+pub fn numbers_in(rest: &[u8], list: &mut [u64]) -> Read {
+    let mut at: usize = 0;
+    let mut count: usize = 0;
+    while at < rest.len() {
+        let end = end_of(rest, at + 1);
+        let Number::Value(n) = number_in(&rest[at + 1..end]) else {
+            return Read::Bad;
+        };
+        if list.len() <= count {
+            return Read::Bad;
+        }
+        list[count] = n;
+        count += 1;
+        at = end;
+    }
+    Read::Count(count)
+}

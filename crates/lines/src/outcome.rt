@@ -19,3 +19,17 @@ pub fn report_failure(program: &[u8], failure: &[u8]) -> u8 {
     io::write_all(STDERR_FILENO, b"\n");
     FAILED
 }
+
+// How a program ended whose input was not read to its end, whose output was not written, or that found a bad line.
+pub fn outcome_of(program: &[u8], unread: bool, unwritten: bool, bad: bool) -> u8 {
+    if unwritten {
+        return report_failure(program, b"the output cannot be written");
+    }
+    if unread {
+        return report_failure(program, b"the input cannot be read");
+    }
+    if bad {
+        return BAD;
+    }
+    GOOD
+}

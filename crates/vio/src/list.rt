@@ -1,173 +1,129 @@
-// The list of lines on standard input, answered on standard output. Input and output go in pieces of up to 65,536 bytes.
-use crate::answers;
+// The list of lines on standard input, answered on standard output.
 use crate::parsed;
-use libc::STDIN_FILENO;
+use crate::parsed::Reply;
 use lines::fields;
-use lines::outcome::report_failure;
+use lines::input;
+use lines::input::INPUT_BYTES;
+use lines::input::LONGEST;
+use lines::input::is_ignored;
+use lines::outcome::outcome_of;
 use lines::output;
+use lines::output::Gathered;
 use lines::output::TEXT_BYTES;
 use lines::output::Text;
-use lines::parts::bytes_within;
 use vio_model::END_WORDS;
 use vio_model::End;
 
-// The longest line, without its line end.
-const LONGEST: usize = 32768;
-
-type LineBytes = [u8; LONGEST];
-
-// The bytes of the line so far (above LONGEST: too long), and the lines ended so far.
+// What is gathered, and whether a line was bad so far.
 struct Place {
-    length: usize,
-    lines: u64,
+    gathered: Gathered,
+    bad: bool,
+}
+
+fn begun() -> Place {
+    Place {
+        gathered: output::none(),
+        bad: false,
+    }
+}
+
+// Writes out what is gathered.
+fn written(text: &Text, place: Place) -> Place {
+    let gathered = output::flush(text, place.gathered);
+    let mut next = place;
+    next.gathered = gathered;
+    next
 }
 
 // Makes the call of a line's name; of any other name none.
-fn call(line: &[u8], zero: &mut End, one: &mut End, text: &mut Text, used: &mut usize) -> bool {
+fn call(line: &[u8], zero: &mut End, one: &mut End, text: &mut Text, gathered: Gathered) -> Reply {
     let end = fields::end_of(line, 0);
     let name = &line[..end];
     let rest = &line[end..];
     if fields::same(name, b"receive") {
-        return parsed::receive(rest, zero, one, text, used);
+        return parsed::receive(rest, zero, one, text, gathered);
     }
     if fields::same(name, b"start") {
-        return parsed::start(rest, zero, one, text, used);
+        return parsed::start(rest, zero, one, text, gathered);
     }
     if fields::same(name, b"state") {
-        return parsed::state(rest, zero, one, text, used);
+        return parsed::state(rest, zero, one, text, gathered);
     }
     if fields::same(name, b"end") {
-        return parsed::end(rest, zero, one, text, used);
+        return parsed::end(rest, zero, one, text, gathered);
     }
-    false
+    Reply::Bad
 }
 
-// A line without its line end is answered, unless it is blank or a comment.
-fn answer_line(
+// What comes of the line of this number.
+fn replied(text: &mut Text, number: u64, place: Place, reply: Reply) -> Place {
+    let mut next = place;
+    match reply {
+        Reply::Text(gathered) => next.gathered = gathered,
+        Reply::Bad => {
+            let gathered = output::put_bad_line(text, place.gathered, number);
+            next.gathered = gathered;
+            next.bad = true;
+        }
+    }
+    next
+}
+
+// Answers the line of this number.
+fn answer(
     line: &[u8],
+    number: u64,
     place: Place,
     zero: &mut End,
     one: &mut End,
     text: &mut Text,
-    used: &mut usize,
-) {
-    if place.length == 0 || fields::is_comment(line) {
-        return;
-    }
-    if LONGEST < place.length {
-        answers::bad_line(text, used, place.lines);
-        return;
-    }
-    let end = bytes_within(place.length, line);
-    if fields::is_blank(&line[..end]) {
-        return;
-    }
-    if !call(&line[..end], zero, one, text, used) {
-        answers::bad_line(text, used, place.lines);
-    }
-}
-
-// A line has ended: it counts, and the next one begins.
-fn end_line(
-    place: Place,
-    line: &LineBytes,
-    zero: &mut End,
-    one: &mut End,
-    text: &mut Text,
-    used: &mut usize,
 ) -> Place {
-    let mut counted = place;
-    counted.lines = std::num::wrapping_add_u64(place.lines, 1);
-    answer_line(line, counted, zero, one, text, used);
-    counted.length = 0;
-    counted
+    if is_ignored(line) {
+        return place;
+    }
+    if LONGEST < line.len() {
+        return replied(text, number, place, Reply::Bad);
+    }
+    let gathered = place.gathered;
+    let reply = call(line, zero, one, text, gathered);
+    replied(text, number, place, reply)
 }
 
-// A byte of the input: the line's end, or one more of the line, kept while it fits.
-fn take_byte(
-    b: u8,
-    place: Place,
-    line: &mut LineBytes,
-    zero: &mut End,
-    one: &mut End,
-    text: &mut Text,
-    used: &mut usize,
-) -> Place {
-    if b == b'\n' {
-        return end_line(place, line, zero, one, text, used);
-    }
-    let at = place.length;
-    let mut next = place;
-    if at < LONGEST {
-        line[at] = b;
-        next.length = at + 1;
-    } else {
-        next.length = LONGEST + 1;
-    }
-    next
-}
-
-fn take_piece(
-    piece: &[u8],
-    place: Place,
-    line: &mut LineBytes,
-    zero: &mut End,
-    one: &mut End,
-    text: &mut Text,
-    used: &mut usize,
-) -> Place {
-    let mut next = place;
-    let mut i: usize = 0;
-    while i < piece.len() {
-        next = take_byte(piece[i], next, line, zero, one, text, used);
-        i += 1;
-    }
-    next
-}
-
-// Answers the list until the input ends. What was read is answered before the next read; after a failed read the unfinished line is not run. The count of
-// reads only lets the loop be proved to end.
-pub(crate) fn run() {
-    let mut input = [0u8; 65536];
+// Answers the list until the input ends, and returns how it ended. What was read is answered before the next read;
+// after a failed read the unfinished line is not run. The count of turns only lets the loop be proved to end.
+pub(crate) fn run() -> u8 {
+    let mut input = [0u8; INPUT_BYTES];
     let mut text = [0u8; TEXT_BYTES];
-    let mut line = [0u8; LONGEST];
     let mut zero = [0u64; END_WORDS];
     let mut one = [0u64; END_WORDS];
-    let mut used: usize = 0;
-    let mut place = Place {
-        length: 0,
-        lines: 0,
-    };
-    let mut reads: u64 = 18446744073709551615;
-    while 0 < reads {
-        let got = libc::read(STDIN_FILENO, &mut input);
-        if got < 0 {
-            report_failure(b"vio", b"the input cannot be read");
-            return;
-        }
-        let count = io::count(got, &input);
-        if count == 0 {
+    let mut place = begun();
+    let mut held = input::none();
+    let mut turns: u64 = 18446744073709551615;
+    while 0 < turns {
+        if held.done || held.failed {
             break;
         }
-        place = take_piece(
-            &input[..count],
-            place,
-            &mut line,
-            &mut zero,
-            &mut one,
-            &mut text,
-            &mut used,
-        );
-        output::flush(&text, &mut used);
-        if output::has_failed(used) {
-            report_failure(b"vio", b"the output cannot be written");
-            return;
+        turns -= 1;
+        let start = held.start;
+        let stop = input::line_end(&input, held);
+        if input::is_whole(held, stop) {
+            held = input::after_line(held, stop);
+            place = answer(
+                &input[start..stop],
+                held.lines,
+                place,
+                &mut zero,
+                &mut one,
+                &mut text,
+            );
+            continue;
         }
-        reads -= 1;
+        place = written(&text, place);
+        if place.gathered.failed {
+            break;
+        }
+        held = input::refill(&mut input, held);
     }
-    end_line(place, &line, &mut zero, &mut one, &mut text, &mut used);
-    output::flush(&text, &mut used);
-    if output::has_failed(used) {
-        report_failure(b"vio", b"the output cannot be written");
-    }
+    place = written(&text, place);
+    outcome_of(b"vio", held.failed, place.gathered.failed, place.bad)
 }

@@ -4,5 +4,10 @@ mod list;
 mod parsed;
 
 fn main() {
-    list::run();
+    let options = arguments::read(b"");
+    if options.wrong {
+        arguments::usage(options, b"usage: vio [--status-fd N] < LIST\n");
+        return;
+    }
+    arguments::report(options, list::run());
 }

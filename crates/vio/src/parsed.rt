@@ -1,9 +1,9 @@
-// The calls that a line's fields ask for, made of an end and answered. Each answers false, and does nothing, where the fields are bad.
+// The calls that a line's fields ask for, made of an end and answered; where the fields are bad, none is made.
 // `rest` is the line from the end of its name on: each field begins with its space.
 use crate::answers;
 use lines::fields;
-use lines::fields::Number;
 use lines::fields::Read;
+use lines::output::Gathered;
 use lines::output::Text;
 use lines::parts::words_within;
 use vio_model::CLASS_LIMIT;
@@ -18,23 +18,10 @@ const MOST: usize = 16384;
 // The fields of a line `end` before its versions: which end, its class, the class that it accepts.
 const BEFORE_VERSIONS: usize = 3;
 
-// The numbers of all fields, at the start of the list.
-fn words_in(rest: &[u8], list: &mut [u64]) -> Read {
-    let mut at: usize = 0;
-    let mut count: usize = 0;
-    while at < rest.len() {
-        let end = fields::end_of(rest, at + 1);
-        let Number::Value(n) = fields::number_in(&rest[at + 1..end]) else {
-            return Read::Bad;
-        };
-        if list.len() <= count {
-            return Read::Bad;
-        }
-        list[count] = n;
-        count += 1;
-        at = end;
-    }
-    Read::Count(count)
+// What a line comes to: its answer gathered, or nothing, because its fields are bad.
+pub(crate) enum Reply {
+    Text(Gathered),
+    Bad,
 }
 
 // All numbers of a run are below a limit.
@@ -51,7 +38,7 @@ fn all_below(run: &[u64], limit: u64) -> bool {
 
 // The numbers of a line that begins with an end, 0 or 1, and has just so many fields, four at most.
 fn are_numbers(rest: &[u8], count: usize, four: &mut [u64; 4]) -> bool {
-    let Read::Count(found) = words_in(rest, four) else {
+    let Read::Count(found) = fields::numbers_in(rest, four) else {
         return false;
     };
     if found != count {
@@ -76,24 +63,24 @@ pub(crate) fn end(
     zero: &mut End,
     one: &mut End,
     text: &mut Text,
-    used: &mut usize,
-) -> bool {
+    gathered: Gathered,
+) -> Reply {
     let mut list = [0u64; MOST];
-    let Read::Count(count) = words_in(rest, &mut list) else {
-        return false;
+    let Read::Count(count) = fields::numbers_in(rest, &mut list) else {
+        return Reply::Bad;
     };
     let last = words_within(count, &list);
     if last < BEFORE_VERSIONS + VERSION_WORDS {
-        return false;
+        return Reply::Bad;
     }
     if (last - BEFORE_VERSIONS) % VERSION_WORDS != 0 {
-        return false;
+        return Reply::Bad;
     }
     if !is_end(list[0], list[1], list[2]) {
-        return false;
+        return Reply::Bad;
     }
     if !all_below(&list[BEFORE_VERSIONS..last], VERSION_LIMIT) {
-        return false;
+        return Reply::Bad;
     }
     let ready = handshake::setup(
         (list[1] % CLASS_LIMIT) as u8,
@@ -106,8 +93,7 @@ pub(crate) fn end(
     } else {
         *one = made;
     }
-    answers::set_up(text, used, ready.refusal);
-    true
+    Reply::Text(answers::put_ready(text, gathered, ready.refusal))
 }
 
 pub(crate) fn start(
@@ -115,22 +101,20 @@ pub(crate) fn start(
     zero: &mut End,
     one: &mut End,
     text: &mut Text,
-    used: &mut usize,
-) -> bool {
+    gathered: Gathered,
+) -> Reply {
     let mut four = [0u64; 4];
     if !are_numbers(rest, 2, &mut four) {
-        return false;
+        return Reply::Bad;
     }
     if ID_LIMIT <= four[1] {
-        return false;
+        return Reply::Bad;
     }
     let id = (four[1] % ID_LIMIT) as u32;
     if four[0] == 0 {
-        answers::sent(text, used, b"start", handshake::start(zero, id));
-    } else {
-        answers::sent(text, used, b"start", handshake::start(one, id));
+        return Reply::Text(answers::put_sent(text, gathered, b"start", handshake::start(zero, id)));
     }
-    true
+    Reply::Text(answers::put_sent(text, gathered, b"start", handshake::start(one, id)))
 }
 
 pub(crate) fn receive(
@@ -138,43 +122,37 @@ pub(crate) fn receive(
     zero: &mut End,
     one: &mut End,
     text: &mut Text,
-    used: &mut usize,
-) -> bool {
+    gathered: Gathered,
+) -> Reply {
     let mut four = [0u64; 4];
     if !are_numbers(rest, 4, &mut four) {
-        return false;
+        return Reply::Bad;
     }
     if ID_LIMIT <= four[1] {
-        return false;
+        return Reply::Bad;
     }
     let next = (four[1] % ID_LIMIT) as u32;
     if four[0] == 0 {
-        answers::sent(
-            text,
-            used,
-            b"receive",
-            handshake::receive(zero, next, four[2], four[3]),
-        );
-    } else {
-        answers::sent(
-            text,
-            used,
-            b"receive",
-            handshake::receive(one, next, four[2], four[3]),
-        );
+        let a = handshake::receive(zero, next, four[2], four[3]);
+        return Reply::Text(answers::put_sent(text, gathered, b"receive", a));
     }
-    true
+    let a = handshake::receive(one, next, four[2], four[3]);
+    Reply::Text(answers::put_sent(text, gathered, b"receive", a))
 }
 
-pub(crate) fn state(rest: &[u8], zero: &End, one: &End, text: &mut Text, used: &mut usize) -> bool {
+pub(crate) fn state(
+    rest: &[u8],
+    zero: &End,
+    one: &End,
+    text: &mut Text,
+    gathered: Gathered,
+) -> Reply {
     let mut four = [0u64; 4];
     if !are_numbers(rest, 1, &mut four) {
-        return false;
+        return Reply::Bad;
     }
     if four[0] == 0 {
-        answers::state(text, used, 0, zero);
-    } else {
-        answers::state(text, used, 1, one);
+        return Reply::Text(answers::put_state(text, gathered, 0, zero));
     }
-    true
+    Reply::Text(answers::put_state(text, gathered, 1, one))
 }

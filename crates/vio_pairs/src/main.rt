@@ -1,10 +1,10 @@
-// Every pair of lists of versions over majors 1 to 3 and minors 0 and 1, in every order: the exchange that one end starts with the other, held
-// to what must come of it by a direct definition, the highest major that both hold and the lower of its minors.
+// Every pair of lists of versions over majors 1 to 3 and minors 0 and 1, in every order: the exchange that one end
+// starts with the other, held to what must come of it by a direct definition, the highest major that both hold and
+// the lower of its minors.
 ghost use Prim.Native.Nat.{_≤_};
 use lines::outcome::report_failure;
 use lines::output;
 use lines::output::TEXT_BYTES;
-use lines::output::Text;
 use model::lower;
 use vio_model::AGREED;
 use vio_model::ENDED;
@@ -110,7 +110,8 @@ fn end_of(code: u64, class: u8, accepts: u8) -> End {
     ready.end
 }
 
-// The exchange that the first end starts: the number of requests, each under the next session id. 9 are more than any starter here holds majors.
+// The exchange that the first end starts: the number of requests, each under the next session id. 9 are more than any
+// starter here holds majors.
 fn exchange(starter: &mut End, other: &mut End, id: u32) -> u64 {
     let mut sent = handshake::start(starter, id);
     let mut next = id;
@@ -178,7 +179,8 @@ fn has_agreed(end: &End, id: u64, major: u64, minor: u64) -> bool {
     end[MINOR] == minor
 }
 
-// Both have agreed on what the lists say, under the last request's session id; or the starter's try has ended, and the other has none.
+// Both have agreed on what the lists say, under the last request's session id; or the starter's try has ended, and
+// the other has none.
 fn is_right(a: u64, b: u64, starter: &End, other: &End, last_id: u64) -> bool {
     let major = highest_common(a, b);
     if major == 0 {
@@ -250,41 +252,39 @@ fn all_pairs(counts: &mut Counts) {
     }
 }
 
-fn put_count(text: &mut Text, used: &mut usize, name: &[u8], n: u64) {
-    output::put(text, used, name);
-    output::put_decimal(text, used, n);
-    output::put_byte(text, used, b'\n');
-}
-
 fn main() {
     let mut counts = [0u64; 7];
     all_pairs(&mut counts);
     let mut text = [0u8; TEXT_BYTES];
-    let mut used: usize = 0;
-    put_count(&mut text, &mut used, b"lists", counts[LISTS]);
-    put_count(&mut text, &mut used, b"pairs", counts[PAIRS]);
-    put_count(
+    let mut next = output::none();
+    next = output::put_line(&mut text, next, b"lists \0", [counts[LISTS], 0, 0, 0]);
+    next = output::put_line(&mut text, next, b"pairs \0", [counts[PAIRS], 0, 0, 0]);
+    next = output::put_line(
         &mut text,
-        &mut used,
-        b"exchanges with a version agreed",
-        counts[WITH_A_VERSION],
+        next,
+        b"exchanges with a version agreed \0",
+        [counts[WITH_A_VERSION], 0, 0, 0],
     );
-    put_count(
+    next = output::put_line(
         &mut text,
-        &mut used,
-        b"exchanges without a version",
-        counts[WITHOUT],
+        next,
+        b"exchanges without a version \0",
+        [counts[WITHOUT], 0, 0, 0],
     );
-    put_count(&mut text, &mut used, b"requests", counts[REQUESTS]);
-    put_count(
+    next = output::put_line(&mut text, next, b"requests \0", [counts[REQUESTS], 0, 0, 0]);
+    next = output::put_line(
         &mut text,
-        &mut used,
-        b"most requests of an exchange",
-        counts[MOST_REQUESTS],
+        next,
+        b"most requests of an exchange \0",
+        [counts[MOST_REQUESTS], 0, 0, 0],
     );
-    put_count(&mut text, &mut used, b"differences", counts[DIFFERENCES]);
-    output::flush(&text, &mut used);
-    if output::has_failed(used) {
+    next = output::put_line(
+        &mut text,
+        next,
+        b"differences \0",
+        [counts[DIFFERENCES], 0, 0, 0],
+    );
+    if output::flush(&text, next).failed {
         report_failure(b"vio_pairs", b"the output cannot be written");
     }
 }

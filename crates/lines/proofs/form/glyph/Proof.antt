@@ -1,0 +1,15 @@
+-- `lines::form::glyph` meets its contract.
+-- Assumes nothing.
+use borrow.Author.Needs.{needs}
+use borrow.Author.Tests.{lt-ltb, le-ltb}
+use Rattle.lines.proofs.form.glyph.Statement.{statement}
+use Rattle.lines.proofs.form.glyph.Tie as tie
+
+returns : tie.Need-returns
+returns c = rw (lt-ltb _ 10 (c .if1 .taken))
+
+returns-2 : tie.Need-returns-2
+returns-2 c = rw (le-ltb _ 10 (c .if1 .left))
+
+pub glyph-spec : {M : Type 1} → statement M
+glyph-spec = tie.close (tie.spec (λ c. search needs) returns (λ c. search needs) returns-2)
