@@ -32,15 +32,17 @@ class Edit:
             value = value.removeprefix(" ")
             if line.startswith("#") or not line:
                 continue
+            if key == "refused-by" and file is None:
+                continue
             if key == "file" and old is None:
-                file = value
+                file = f"{self.crate.name}/{value}"
             elif key == "old" and old is None and file and value:
                 old = value
             elif key == "new" and old is not None:
                 yield file, old, value
                 old, found = None, True
             else:
-                raise Wrong(f"line {number} is no 'file:', 'old:' or 'new:' line in its place")
+                raise Wrong(f"line {number} is no 'refused-by:', 'file:', 'old:' or 'new:' line in its place")
         if old is not None or not found:
             raise Wrong("an 'old:' line has no 'new:'" if old is not None else "it has no 'old:' and 'new:'")
 
@@ -58,7 +60,7 @@ class Edit:
         bodies, names = set(), set()
         for file, text in self.files.items():
             before = self.crate.texts[file]
-            if file.startswith("specs/"):
+            if file.startswith(f"{self.crate.name}/specs/"):
                 changed = self.crate.reach.changed(file, text)
                 names |= changed
             else:
@@ -76,10 +78,17 @@ class Edit:
             self.bodies = bodies
 
 
+def refuser(path):
+    """The crate that an edit says must refuse it, None if that is its own."""
+    named = re.search(r"^refused-by: (\w+)$", path.read_text(), re.M)
+    return named and named[1]
+
+
 def functions(file, text):
-    """The text of each function of a file by its path, as changes/read for `read` of src/changes.rt."""
-    module = re.sub(r"(mod|lib|main)$", "", file.removeprefix("src/").removesuffix(".rt"))
-    return {f"{module}/{m[1]}".strip("/"): m.group() for m in FUNCTION.finditer(text)}
+    """The text of each function of a file by its path, as front/changes/read for `read` of front/src/changes.rt."""
+    crate, _, module = file.removesuffix(".rt").partition("/src/")
+    module = re.sub(r"(mod|lib|main)$", "", module).strip("/")
+    return {"/".join(filter(None, (crate, module, m[1]))): m.group() for m in FUNCTION.finditer(text)}
 
 
 def contract(function):

@@ -1,4 +1,4 @@
-"""Which paragraphs of a crate's specs/ and shared proofs a changed definition or contract can reach.
+"""Which paragraphs of the specs/ and shared proofs of some crates a changed definition or contract can reach.
 
 A paragraph (the lines between blank ones) declares a name or a few, and depends on what it names: names of its own
 file and those that `use` lines import. Every word that could be a name counts as one, and a name is followed through
@@ -34,10 +34,11 @@ def declared(code):
 
 
 class Reach:
-    def __init__(self, crate, texts, functions):
-        """texts: the files of specs/ and the shared ones of proofs/; functions: their paths, as changes/read."""
+    def __init__(self, crates, texts, functions):
+        """texts: the files of specs/ and the shared ones of proofs/ of some crates; functions: the paths of theirs, as
+        front/changes/read."""
         self.texts = texts
-        self.scopes = {file: self.scope(crate, file, functions) for file in texts}
+        self.scopes = {file: self.scope(crates, file, functions) for file in texts}
         self.users = defaultdict(set)
         self.declares = {}
         for file, text in texts.items():
@@ -49,13 +50,16 @@ class Reach:
                 self.declares[file, line] = {(file, name) for name in declared(code)}
                 self.add_uses(file, line, code + header)
 
-    def scope(self, crate, file, functions):
+    def scope(self, crates, file, functions):
         """What each name of a file stands for: a name of a file, or a function's contract."""
         names = {name: (file, name) for _, code in paragraphs(self.texts[file]) for name in declared(code)}
         for module, imported, alias in USE.findall(self.texts[file]):
-            own = re.fullmatch(rf"Rattle·{crate}·(?:specs|proofs)\.(.*)", module)
-            path = own[1].replace(".", "/") if own else ""
-            function = next((each for each in functions if path.startswith(f"proofs/{each}/")), None)
+            # a module of its own crate is Rattle.CRATE.specs.NAME, one of another crate Rattle.CRATE.specs.NAME
+            own = re.fullmatch(r"Rattle·(\w+)(?:·\w+)?\.(specs|proofs)\.(.*)", module)
+            known = own and own[1] in crates
+            rest = own[3].replace(".", "/") if known else ""
+            path = f"{own[1]}/{own[2]}/{rest}" if known else ""
+            function = known and next((each for each in functions if f"{own[1]}/{rest}".startswith(f"{each}/")), None)
             for item in imported.split(",") if imported else [alias]:
                 name, _, other = item.strip().partition(" as ")
                 names[other or name] = ("function", function) if function else (f"{path}.antt", name)
@@ -94,11 +98,11 @@ class Reach:
 
     def first(self, reached):
         """The paragraphs of proofs among those that depend on no other one of proofs there: what is likely to fail."""
-        proofs = {place for place in reached if place[0].startswith("proofs/")}
+        proofs = {place for place in reached if "/proofs/" in place[0]}
         later = {user for place in proofs for name in self.declares[place] for user in self.users[name] - {place}}
         return proofs - later
 
     def at(self, place):
-        """The paragraph of a place, as proofs/Laws.antt:12:5."""
+        """The paragraph of a place, as front/proofs/Laws.antt:12:5."""
         file, line, _ = place.rsplit(":", 2)
         return max((each for each in self.declares if each[0] == file and each[1] <= int(line)), default=None)

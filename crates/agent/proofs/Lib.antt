@@ -1,4 +1,3 @@
 pub mod Laws
 pub mod Shown
 pub mod Contracts
-pub mod Demand3

@@ -7,8 +7,8 @@ use native.Mathlib.Numerals.{add-one}
 use native.Mathlib.Omega.{arith}
 use lib.ListN.{length, set, take, length-append, length-set}
 use lib.Seq.{take-suc-set, length-take-le}
-use Rattle.model.specs.declared.Found.{Found}
-use Rattle.model.specs.declared.Found.the-variants.{Nowhere}
+use Rattle.basics.specs.declared.Found.{Found}
+use Rattle.basics.specs.declared.Found.the-variants.{Nowhere}
 use Rattle.model.specs.Layout.{blockAt, blocksOf, firstBlockWord, mostBlocks, mostLooked}
 use Rattle.model.specs.Search.{Search, belowMiddle, aboveMiddle, middleOf, foundAs, lookedFirst, foundThere, turnAt, searchLeft, searchIn, searchOf, Tells}
 use Rattle.model.proofs.Search.{halvings-more, none-left, turn-here, turn-above, turn-below, search-holds}

@@ -8,10 +8,10 @@ use lib.ListN.{length}
 use lib.Dec.{eqb}
 use borrow.Author.Tests.{eqb-true, eq-eqb, leb-true, le-leb}
 use Rattle.blocks.specs.Permanent.{permanentKeeps}
-use Rattle.model.specs.Choice.{pick, _and_, every}
+use Rattle.basics.specs.Choice.{pick, _and_, every}
 use Rattle.model.specs.Layout.{Block, blockIn, blockWords, mostBlocks}
 use Rattle.model.specs.Blocks.{endOf, blockKeeps, endBefore, blocksKeep, acceptedBlocks, highestEnd, mostPages, pageSize}
-use Rattle.model.proofs.Choice.{both}
+use Rattle.basics.proofs.Choice.{both}
 
 -- where the block lies, and how long it is
 pub record Lies (b : Block) (floor : ℕ) : Type 0 where

@@ -3,7 +3,7 @@
 use Prim.Native.Nat.{ℕ, _+_}
 use mathlib.Core.Bool.{Bool}
 use lib.Dec.{leb, eqb}
-use Rattle.model.specs.Choice.{pick, _and_}
+use Rattle.basics.specs.Choice.{pick, _and_}
 
 unfoldable pub permanentKeeps : ℕ → ℕ → ℕ → ℕ → Bool
 permanentKeeps pages first permanent configured =

@@ -1,10 +1,10 @@
 // "Blocks: 0 to 16, given at setup": the rules of a block list, and the block that a pair names.
+use basics::Found;
 use model::BLOCK_COUNT_WORD;
 use model::BLOCK_WORDS;
 use model::CONFIGURED_PLACE;
 use model::FIRST_BLOCK_WORD;
 use model::FIRST_PLACE;
-use model::Found;
 use model::MOST_BLOCKS;
 use model::MOST_LOOKED;
 use model::PAGES_PLACE;
@@ -15,8 +15,8 @@ ghost use mathlib.Core.Path.{_≡_};
 ghost use Prim.Native.Nat.{_+_, _*_, _≤_};
 ghost use lib.ListN.{length};
 ghost use lib.Dec.{eqb};
-ghost use Rattle.model.specs.Choice.{every, pick};
-ghost use Rattle.model.specs.declared.Found.the-variants.{At, Nowhere};
+ghost use Rattle.basics.specs.Choice.{every, pick};
+ghost use Rattle.basics.specs.declared.Found.the-variants.{At, Nowhere};
 ghost use Rattle.model.specs.Layout.{mostBlocks, blockWords, blockIn, blocksOf, firstBlockWord};
 ghost use Rattle.model.specs.Blocks.{mostPages, pageSize, blockKeeps, endBefore, blocksKeep, acceptedBlocks, namedBlock};
 ghost use Rattle.model.specs.Search.{BlocksInOrder, Tells, searchOf};

@@ -4,6 +4,7 @@ ghost use Prim.Native.Nat.{_+_, _*_, _≤_};
 ghost use lib.ListN.{length};
 ghost use Rattle.model.specs.Layout.{deviceWords, idWords, mostIdBytes, mostNameBytes, wordBytes};
 use crate::numbers::numbers_and_bytes;
+use basics::lower;
 use lines::fields::Read;
 use model::BUSY_PLACE;
 use model::DEVICE_CONFIGURED_PLACE;
@@ -16,7 +17,6 @@ use model::NAME_BYTES_PLACE;
 use model::NAME_PLACE;
 use model::NAME_WORDS;
 use model::WORD_BYTES;
-use model::lower;
 
 // The longest name of a device that a line can give, and the longest id.
 const LONGEST_NAME: usize = 300;

@@ -11,17 +11,17 @@ use lib.ListN.{length, getD, length-append, List·getD-append}
 use lib.Seq.{sets, getD-at}
 use lib.Dec.{eqb}
 use borrow.Author.Tests.{eq-eqb, ne-eqb, eqb-true, eqb-false}
-use Rattle.model.specs.Choice.{pick, _and_, every, joined}
+use Rattle.basics.specs.Choice.{pick, _and_, every, joined}
 use Rattle.model.specs.declared.Event.{Event}
-use Rattle.model.specs.declared.Found.{Found}
-use Rattle.model.specs.declared.Found.the-variants.{At, Nowhere}
+use Rattle.basics.specs.declared.Found.{Found}
+use Rattle.basics.specs.declared.Found.the-variants.{At, Nowhere}
 use Rattle.model.specs.Layout.{memoryService, blockAt, blocksOf, mostBlocks, mostRecords, outputBytes, replyHeaderBytes, resultBytes, stateWords, withConfigured}
 use Rattle.model.specs.Blocks.{namedBlock}
 use Rattle.model.specs.Search.{BlocksInOrder}
 use Rattle.model.specs.Journal.{codeNone, answeredEvent, configuredEvent}
 use Rattle.model.specs.Memory.{Progress, configureOne, DR-MEM-OK, DR-MEM-RES-FAILURE, DR-MEM-RES-NOWORK, DR-MEM-RES-OK, addrIn, answering, answeringConfigure, configureAt, configureReply, configuredBy, oneConfigured, oneFailed, oneUnchanged, resultRecord, sizeIn, statusAt, statusOf}
 use Rattle.model.specs.Handler.{Handles}
-use Rattle.model.proofs.Choice.{clash, pick-true, pick-false, every-at, joined-same}
+use Rattle.basics.proofs.Choice.{clash, pick-true, pick-false, every-at, joined-same}
 use Rattle.model.proofs.Mask.{bitAt, bit-within, none-within}
 use Rattle.model.proofs.Words.{configured-length}
 use Rattle.model.proofs.Turns.{flag-sizes, flag-now, flag-else}

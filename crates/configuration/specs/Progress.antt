@@ -7,9 +7,9 @@ use mathlib.Core.List.{List, [], _∷_, _++_}
 use lib.ListN.{getD}
 use lib.Seq.{sets}
 use lib.Dec.{eqb}
-use Rattle.model.specs.Choice.{joined}
-use Rattle.model.specs.declared.Found.{Found}
-use Rattle.model.specs.declared.Found.the-variants.{At}
+use Rattle.basics.specs.Choice.{joined}
+use Rattle.basics.specs.declared.Found.{Found}
+use Rattle.basics.specs.declared.Found.the-variants.{At}
 use Rattle.model.specs.Layout.{mostBlocks, blocksOf, blockAt, replyHeaderBytes, withConfigured}
 use Rattle.model.specs.Blocks.{namedBlock}
 use Rattle.model.specs.Memory.{DR-MEM-RES-FAILURE, Progress, addrIn, sizeIn, resultRecord, configureAt, configureOne, configuredBy}

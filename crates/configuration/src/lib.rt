@@ -1,15 +1,15 @@
 // CONFIGURE: its records in order, and its reply.
+use basics::Found;
 use model::DR_MEM_RES_FAILURE;
 use model::DR_MEM_RES_NOWORK;
 use model::DR_MEM_RES_OK;
-use model::Found;
 use model::Handled;
 use model::MEMORY_SERVICE;
 use model::State;
 ghost use mathlib.Core.Path.{_≡_};
 ghost use Prim.Native.Nat.{_+_, _*_, _^_, _≤_, _<_};
 ghost use lib.ListN.{length};
-ghost use Rattle.model.specs.declared.Found.the-variants.{At};
+ghost use Rattle.basics.specs.declared.Found.the-variants.{At};
 ghost use Rattle.model.specs.Layout.{blocksOf, memoryHeaderBytes, mostBlocks, mostRecords, outputBytes, pairBytes, stateWords};
 ghost use Rattle.model.specs.Search.{BlocksInOrder};
 ghost use Rattle.model.specs.Memory.{configuredBy, answeringConfigure};

@@ -7,10 +7,10 @@ use Prim.Native.Nat.{ℕ, _+_, _*_, _/_, _%_, _<_, _≤_}
 use native.Mathlib.Omega.{arith}
 use lib.ListN.{length}
 use borrow.Author.Tests.{eq-eqb, ne-eqb, eqb-true, le-leb, leb-true}
-use Rattle.model.specs.Choice.{_and_, every}
+use Rattle.basics.specs.Choice.{_and_, every}
 use Rattle.model.specs.Layout.{deviceIn, deviceWords, mostDevices, mostNameBytes, nameByteIn, nameBytesIn, namePlace}
 use Rattle.model.specs.Devices.{acceptedDevices, deviceApart, deviceKeeps, devicesKeep, isDevice, nameKeeps, sameName}
-use Rattle.model.proofs.Choice.{both, and-false, every-at, each-of}
+use Rattle.basics.proofs.Choice.{both, and-false, every-at, each-of}
 use Rattle.names.specs.NameWords.{heldByte, heldBytes, padded, holdsName}
 use Rattle.names.proofs.Bytes.{and-next}
 use Rattle.names.proofs.Names.{NameRules, name-rules}

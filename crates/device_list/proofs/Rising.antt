@@ -11,10 +11,10 @@ use native.Mathlib.Omega.{arith}
 use lib.ListN.{getD}
 use lib.Dec.{eqb, ltb}
 use borrow.Author.Tests.{not-true, ne-eqb, ltb-true}
-use Rattle.model.specs.Choice.{_and_, every}
+use Rattle.basics.specs.Choice.{_and_, every}
 use Rattle.model.specs.Devices.{deviceApart, isDevice}
 use Rattle.model.specs.Layout.{deviceIn, deviceWords}
-use Rattle.model.proofs.Choice.{and-false, every-at, every-make}
+use Rattle.basics.proofs.Choice.{and-false, every-at, every-make}
 use Rattle.device_list.specs.Rising.{idsRise}
 
 -- one test more

@@ -1,10 +1,10 @@
 // "up to 32 devices given at setup": the rules of a device list, and the device that an id and a name name.
+use basics::Found;
 use model::BUSY_PLACE;
 use model::DEVICE_CONFIGURED_PLACE;
 use model::DEVICE_COUNT_WORD;
 use model::DEVICE_WORDS;
 use model::FIRST_DEVICE_WORD;
-use model::Found;
 use model::MOST_DEVICES;
 use model::MOST_NAME_BYTES;
 use model::NAME_BYTES_PLACE;
@@ -15,7 +15,7 @@ ghost use mathlib.Core.Bool.{true, not};
 ghost use Prim.Native.Nat.{_+_, _*_, _≤_, _<_};
 ghost use lib.Dec.{eqb};
 ghost use lib.ListN.{length};
-ghost use Rattle.model.specs.Choice.{every};
+ghost use Rattle.basics.specs.Choice.{every};
 ghost use Rattle.model.specs.Layout.{deviceAt, deviceIn, devicesOf, deviceWords, firstDeviceWord, mostDevices, withDevice};
 ghost use Rattle.model.specs.Devices.{acceptedDevices, deviceApart, deviceKeeps, devicesKeep, isDevice, nameKeeps, namedDevice};
 ghost use Rattle.device_list.specs.Rising.{idsRise};

@@ -13,15 +13,15 @@ use Rattle.wire.specs.BigEndian.{byteAt, bytesOf, written}
 use Rattle.wire.proofs.Laws.{bytes-low, sets-written}
 use Rattle.model.specs.declared.DeviceOperation.{DeviceOperation}
 use Rattle.model.specs.declared.Event.{Event}
-use Rattle.model.specs.declared.Found.the-variants.{At}
-use Rattle.model.specs.Choice.{_and_, every, pick}
+use Rattle.basics.specs.declared.Found.the-variants.{At}
+use Rattle.basics.specs.Choice.{_and_, every, pick}
 use Rattle.model.specs.Layout.{dataHeaderBytes, deviceAt, deviceHeaderBytes, deviceReplyBytes, deviceService, devicesOf, dsHeaderBytes, firstDeviceWord, mostDevices, outputBytes, withDevice}
 use Rattle.model.specs.Journal.{answeredEvent, deviceEvent}
 use Rattle.model.specs.Messages.{DS-DATA, dsData, dsMessage}
 use Rattle.model.specs.Devices.{devicesKeep, namedDevice}
 use Rattle.model.specs.DeviceRequests.{DR-VIO-RES-FAILURE, DR-VIO-RES-BLOCKED, DR-VIO-RES-OK, DR-VIO-STAT-NOT-PRESENT, answeredDevice, answeringDevice, askingDevice, configuredAfter, deviceFor, deviceForm, deviceId, deviceName, deviceNumber, deviceReply, deviceResult, deviceStatus, deviceType, hasName, operationOf}
 use Rattle.model.specs.Handler.{Handles}
-use Rattle.model.proofs.Choice.{and-false, and-false-right, both, first-facts, join, pick-false, pick-true}
+use Rattle.basics.proofs.Choice.{and-false, and-false-right, both, first-facts, join, pick-false, pick-true}
 use Rattle.model.proofs.Replies.{device-short}
 use Rattle.device_list.proofs.Names.{devices-few}
 

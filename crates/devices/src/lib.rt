@@ -1,4 +1,5 @@
 // "Answer `dr-vio` inside": the form of a request of the virtual devices' service, what each does to the state, and its reply.
+use basics::Found;
 use model::DATA_HEADER_BYTES;
 use model::DEVICE_HEADER_BYTES;
 use model::DEVICE_NUMBER_BYTES;
@@ -18,7 +19,6 @@ use model::DR_VIO_UNCONFIGURE;
 use model::DS_DATA;
 use model::DS_HEADER_BYTES;
 use model::DeviceOperation;
-use model::Found;
 use model::Handled;
 use model::State;
 ghost use mathlib.Core.Path.{_≡_};
@@ -28,7 +28,7 @@ ghost use Prim.Native.Nat.{ℕ, _+_, _-_, _≤_, _<_};
 ghost use lib.ListN.{length};
 ghost use lib.Dec.{eqb};
 ghost use Rattle.wire.specs.BigEndian.{byteAt, written};
-ghost use Rattle.model.specs.Choice.{_and_, every, pick};
+ghost use Rattle.basics.specs.Choice.{_and_, every, pick};
 ghost use Rattle.model.specs.Layout.{channelCount, mostDevices, outputBytes};
 ghost use Rattle.model.specs.State.{sound};
 ghost use Rattle.model.specs.DeviceRequests.{DR-VIO-RES-FAILURE, DR-VIO-RES-NOT-IN-MD, DR-VIO-RES-OK, answeredDevice, answeringDevice, askingDevice, deviceFor, deviceNumber, deviceReply, deviceResult, deviceStatus, hasName, operation, operationOf};

@@ -5,17 +5,7 @@ use front_model::FrontWords;
 use model::Answer;
 use model::Drained;
 use model::State;
-ghost use Rattle.model.specs.Contracts.{
-  SetupPost,
-  ReceivePost,
-  OfferPost,
-  WithdrawPost,
-  ClosePost,
-  WorkPost,
-  PermitPost,
-  TakePost,
-  DrainPost,
-};
+ghost use Rattle.model.specs.Contracts.{SetupPost, ReceivePost, OfferPost, WithdrawPost, ClosePost, WorkPost, PermitPost, TakePost, DrainPost};
 ghost use Rattle.model.specs.Layout.{dataHeaderBytes, isSet};
 ghost use Rattle.front_model.specs.Contracts.{PiecePost, ReopenPost};
 ghost use Rattle.model.specs.Calls.{shown};

@@ -11,9 +11,9 @@ use lib.Seq.{sets, sets-eq, length-sets, length-take-le, take-add, drop-at, drop
 use lib.Dec.{eqb, ltb}
 use Rattle.front.proofs.Sounds.{sound-keeping}
 use borrow.Author.Tests.{le-leb, leb-true, ltb-true, ltb-false, eqb-true, eqb-false}
-use Rattle.model.specs.Choice.{pick, _and_, _or_}
+use Rattle.basics.specs.Choice.{pick, _and_, _or_}
 use Rattle.model.specs.Layout.{channelCount, isSet}
-use Rattle.model.proofs.Choice.{both, join, or-true, every-at, every-make, tabulate-set}
+use Rattle.basics.proofs.Choice.{both, join, or-true, every-at, every-make, tabulate-set}
 use Rattle.front_model.specs.Front.{Front, dropping, keeps, partWords, mostMessage, mostKept, keptAt, droppingAt, bytesAt, partOf, partsOf, unfinished, frontSoundAt, frontSound}
 use Rattle.front.specs.Changes.{withWords, withBytes, Fronts}
 

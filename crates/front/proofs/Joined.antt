@@ -12,10 +12,10 @@ use lib.Dec.{ltb}
 use borrow.Author.Tests.{leb-true, ltb-true, ltb-false, le-leb, lt-ltb, le-ltb}
 use Rattle.wire.specs.BigEndian.{byteAt, numberAt}
 use Rattle.wire.proofs.Laws.{number-after}
-use Rattle.model.specs.Choice.{pick, _and_, _or_}
+use Rattle.basics.specs.Choice.{pick, _and_, _or_}
 use Rattle.model.specs.Layout.{dsHeaderBytes}
 use Rattle.model.specs.Messages.{mostPayload, payloadLength}
-use Rattle.model.proofs.Choice.{both}
+use Rattle.basics.proofs.Choice.{both}
 use Rattle.front_model.specs.Front.{unfinished, mostKept}
 use Rattle.front_model.specs.Calls.{takingOf}
 use Rattle.front.specs.Next.{Keeps, Gives}

@@ -6,4 +6,3 @@ pub mod Reopens
 pub mod Joined
 pub mod Pieces
 pub mod Contracts
-pub mod Linked

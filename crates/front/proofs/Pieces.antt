@@ -9,7 +9,7 @@ use lib.ListN.{length, drop, set, take, length-drop}
 use lib.Seq.{length-take-le, take-append-add}
 use lib.Dec.{eqb, ltb}
 use borrow.Author.Tests.{eqb-true, eqb-false, le-ltb, lt-ltb, ne-eqb}
-use Rattle.model.specs.Choice.{pick, _and_}
+use Rattle.basics.specs.Choice.{pick, _and_}
 use Rattle.model.specs.declared.Answer.{Answer}
 use Rattle.model.specs.Layout.{channelCount, isSet, journalWords, outputBytes}
 use Rattle.model.specs.State.{sound}
@@ -17,7 +17,7 @@ use Rattle.model.specs.Refusals.{refusalIn, actionRefusal}
 use Rattle.model.specs.Calls.{Action, act, receive, inRange, allowed, refusalOf, Outcome, outcome, accepted, refused}
 use Rattle.model.specs.Contracts.{ReceivePost, answered}
 use Rattle.model.proofs.Calls.{on-act, row-passed}
-use Rattle.model.proofs.Choice.{and-false-right, clash, every-at, pick-true, tabulate-set}
+use Rattle.basics.proofs.Choice.{and-false-right, clash, every-at, pick-true, tabulate-set}
 use Rattle.front_model.specs.Front.{Front, Part, dropping, keeps, bytesAt, droppingAt, frontSound, frontSoundAt, keptAt, mostKept, mostMessage, partOf, partsOf, unfinished}
 use Rattle.front_model.specs.Calls.{taking, pieceRefusal, pieced, piecedBy, pieceGiven, pieceKept, pieceRefused}
 use Rattle.front_model.specs.Contracts.{PiecePost}

@@ -6,15 +6,15 @@ use mathlib.Core.List.{List, []}
 use Prim.Native.Nat.{ℕ, _<_}
 use native.Mathlib.Omega.{arith}
 use borrow.Author.Tests.{ltb-true, ne-eqb, not-false}
-use Rattle.model.specs.Choice.{pick, _and_}
+use Rattle.basics.specs.Choice.{pick, _and_}
 use Rattle.model.specs.Layout.{channelCount}
 use Rattle.model.specs.State.{sound}
 use Rattle.model.specs.Refusals.{refusalIn}
 use Rattle.model.proofs.Calls.{row-passed}
-use Rattle.model.proofs.Choice.{and-false-right}
+use Rattle.basics.proofs.Choice.{and-false-right}
 use Rattle.front_model.specs.Front.{Front, frontSound}
 use Rattle.front_model.specs.Calls.{reopened, reopenRefusal}
-use Rattle.front_model.specs.Lists.{FrontKept}
+use Rattle.front_model.specs.Contracts.{FrontKept}
 use Rattle.front_model.specs.Contracts.{ReopenPost}
 use Rattle.front.specs.Refusals.{openingRefusal}
 use Rattle.front.specs.Changes.{Fronts}

@@ -5,7 +5,7 @@ use mathlib.Core.Bool.{Bool, true, false}
 use Prim.Native.Nat.{ℕ, _<_, _≤_}
 use lib.Dec.{eqb}
 use borrow.Author.Tests.{eqb-true, lt-leb, le-leb, ne-eqb}
-use Rattle.model.specs.Choice.{_and_, _or_}
+use Rattle.basics.specs.Choice.{_and_, _or_}
 use Rattle.front_model.specs.Front.{Front, keptAt, droppingAt, bytesAt, mostKept, unfinished, frontSoundAt}
 
 module _ (f : Front) (c : ℕ) where

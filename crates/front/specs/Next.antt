@@ -5,7 +5,7 @@ use mathlib.Core.Path.{_≡_}
 use mathlib.Core.Bool.{true, false}
 use mathlib.Core.List.{List, [], _++_}
 use lib.ListN.{length, take}
-use Rattle.model.specs.Choice.{pick}
+use Rattle.basics.specs.Choice.{pick}
 use Rattle.model.specs.Layout.{isSet}
 use Rattle.front.specs.declared.Next.{Next}
 use Rattle.front_model.specs.Front.{Front, bytesAt, dropping, droppingAt, keeps, mostKept, mostMessage, unfinished}

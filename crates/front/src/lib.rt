@@ -26,7 +26,7 @@ ghost use lib.ListN.{drop, length, take};
 ghost use lib.Seq.{sets};
 ghost use Rattle.wire.specs.BigEndian.{byteAt};
 ghost use lib.Dec.{eqb};
-ghost use Rattle.model.specs.Choice.{pick};
+ghost use Rattle.basics.specs.Choice.{pick};
 ghost use Rattle.model.specs.Contracts.{ReceivePost};
 ghost use Rattle.model.specs.Messages.{payloadLength};
 ghost use Rattle.model.specs.Layout.{channelCount, dsHeaderBytes};

@@ -7,7 +7,7 @@ use mathlib.Core.Bool.{Bool, true, not}
 use mathlib.Core.List.{List, []}
 use lib.ListN.{length, getD, take, drop, replicate}
 use lib.Dec.{eqb, leb, ltb}
-use Rattle.model.specs.Choice.{pick, _and_, _or_, every, tabulate}
+use Rattle.basics.specs.Choice.{pick, _and_, _or_, every, tabulate}
 use Rattle.model.specs.Layout.{channelCount, dsHeaderBytes, isSet}
 use Rattle.model.specs.Messages.{mostPayload, payloadLength}
 

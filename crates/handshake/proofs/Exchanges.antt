@@ -11,7 +11,7 @@ use mathlib.Core.List.{List, [], _∷_}
 use Prim.Native.Nat.{ℕ, _*_, _≤_}
 use native.Mathlib.Omega.{arith}
 use lib.ListN.{length}
-use Rattle.model.specs.Choice.{pick}
+use Rattle.basics.specs.Choice.{pick}
 use Rattle.vio_model.specs.declared.Ready.{Ready}
 use Rattle.vio_model.specs.declared.Answer.{Answer}
 use Rattle.vio_model.specs.Layout.{classOf, acceptsOf, versionsOf}

@@ -9,7 +9,7 @@ use native.Mathlib.Nat.{le-antisymm}
 use native.Mathlib.Numerals.{add-one}
 use lib.ListN.{length, getD, set}
 use lib.Seq.{paste, paste-suc}
-use Rattle.model.specs.Choice.{pick, _and_}
+use Rattle.basics.specs.Choice.{pick, _and_}
 use Rattle.vio_message.specs.declared.Message.{Message}
 use Rattle.vio_model.specs.declared.Session.{Session}
 use Rattle.vio_model.specs.declared.Effect.{Effect}
@@ -23,7 +23,7 @@ use Rattle.vio_model.specs.Calls.{blankEnd, silent, sending, accepted, started,
 use Rattle.vio_model.specs.Step.{outcomeOf, StartPost, ReceivePost}
 use Rattle.vio_message.specs.declared.Words.{Words}
 use Rattle.vio_message.specs.Words.{packed, unpacked}
-use Rattle.model.proofs.Loops.{no, yes}
+use Rattle.basics.proofs.Loops.{no, yes}
 
 -- what accepted gives and leaves, by the effect's case
 pub ignored : (w : List ℕ) (f : Effect) (r : Answer) → f ≡ Ignored → r ≡ record { refusal = 0; count = 0; first = 0; second = 0 } → outcomeOf r w ≡ accepted w f

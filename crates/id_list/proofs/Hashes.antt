@@ -10,12 +10,12 @@ use lib.ListN.{length, getD, set, length-set}
 use lib.Seq.{getD-set-same, getD-set-other}
 use lib.Dec.{eqb, leb}
 use borrow.Author.Tests.{eqb-true, eqb-false, leb-true, leb-false, not-true}
-use Rattle.model.specs.Choice.{every}
+use Rattle.basics.specs.Choice.{every}
 use Rattle.model.specs.Layout.{idBytesIn, idIn, mostIds, wordBytes}
 use Rattle.model.specs.Devices.{sameName}
 use Rattle.model.specs.Peers.{idApart, idKeeps}
-use Rattle.model.proofs.Choice.{clash, every-at, every-make}
-use Rattle.model.proofs.Loops.{refute}
+use Rattle.basics.proofs.Choice.{clash, every-at, every-make}
+use Rattle.basics.proofs.Loops.{refute}
 use Rattle.names.proofs.Bytes.{words-differ}
 use Rattle.names.proofs.Names.{lengths-differ, pair-words}
 use Rattle.names.specs.Hashes.{hashOf, mixedWords}

@@ -7,12 +7,12 @@ use Prim.Native.Nat.{ℕ, _+_, _*_, _/_, _%_, _<_, _≤_}
 use native.Mathlib.Omega.{arith}
 use lib.ListN.{length}
 use borrow.Author.Tests.{eq-eqb, eqb-true, le-leb, leb-true}
-use Rattle.model.specs.Choice.{_and_, every}
+use Rattle.basics.specs.Choice.{_and_, every}
 use Rattle.model.specs.Layout.{highestMinor, idByteIn, idBytesIn, idIn, idPlace, idWords, mostIdBytes, mostIds}
 use Rattle.model.specs.Devices.{sameName}
 use Rattle.model.specs.Peers.{acceptedIds, idApart, idBytesKeep, idKeeps, idsKeep}
-use Rattle.model.proofs.Choice.{both, every-at, each-of}
-use Rattle.model.proofs.Loops.{every-none}
+use Rattle.basics.proofs.Choice.{both, every-at, each-of}
+use Rattle.basics.proofs.Loops.{every-none}
 use Rattle.names.specs.NameWords.{heldByte, heldBytes, padded, holdsName}
 use Rattle.names.proofs.Bytes.{and-next}
 use Rattle.names.proofs.Names.{NameRules, name-rules}

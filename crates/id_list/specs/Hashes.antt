@@ -7,7 +7,7 @@ use mathlib.Core.List.{List}
 use lib.Bits.{bitXor}
 use lib.Dec.{eqb}
 use lib.ListN.{getD}
-use Rattle.model.specs.Choice.{every}
+use Rattle.basics.specs.Choice.{every}
 use Rattle.model.specs.Layout.{idBytesIn, idPlace, idWords, mostIds}
 use Rattle.names.specs.Hashes.{hashOf}
 

@@ -1,6 +1,6 @@
 // "up to 16 different ids, at most 32 bytes with the zero, that the host lists at setup": the rules of an id list, and the listed id that has given bytes.
+use basics::Found;
 use model::FIRST_ID_WORD;
-use model::Found;
 use model::HIGHEST_MINOR;
 use model::ID_BYTES_PLACE;
 use model::ID_COUNT_WORD;
@@ -15,7 +15,7 @@ ghost use mathlib.Core.Path.{_≡_};
 ghost use mathlib.Core.Bool.{true};
 ghost use Prim.Native.Nat.{_+_, _*_, _≤_, _<_};
 ghost use lib.ListN.{length};
-ghost use Rattle.model.specs.Choice.{every};
+ghost use Rattle.basics.specs.Choice.{every};
 ghost use Rattle.model.specs.Layout.{firstIdWord, idAt, idsOf, idWords, mostIds};
 ghost use Rattle.model.specs.Peers.{acceptedIds, idApart, idKeeps, idsKeep, listedId};
 ghost use Rattle.id_list.specs.Hashes.{HashesStand, apartAt, folded, hashIn, hashesApart};

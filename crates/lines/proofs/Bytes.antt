@@ -10,9 +10,9 @@ use lib.ListN.{length, getD, set, drop}
 use lib.Seq.{drop-cons, set-at, append-snoc}
 use lib.Dec.{ltb, leb, eqb}
 use borrow.Author.Tests.{lt-ltb, le-ltb, ltb-true, le-leb, lt-leb, eq-eqb, ne-eqb}
-use Rattle.model.specs.Choice.{pick, _and_, every, tabulate}
-use Rattle.model.proofs.Choice.{clash, pick-true, pick-false, both, join, and-false, and-false-right, tabulate-length}
-use Rattle.model.proofs.Loops.{every-fails}
+use Rattle.basics.specs.Choice.{pick, _and_, every, tabulate}
+use Rattle.basics.proofs.Choice.{clash, pick-true, pick-false, both, join, and-false, and-false-right, tabulate-length}
+use Rattle.basics.proofs.Loops.{every-fails}
 use Rattle.lines.specs.Fields.{digitOf, pairOf, arePair, pairIn, byteOf, isByte, areBytes, bytesIn, BytesRead}
 use Rattle.lines.specs.declared.fields.Number.the-variants.{Value, Bad}
 use Rattle.lines.specs.declared.fields.Read.the-variants.{Count, Bad as BadBytes}

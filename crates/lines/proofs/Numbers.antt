@@ -10,8 +10,8 @@ use native.Mathlib.Numerals.{add-one}
 use lib.ListN.{length, getD}
 use lib.Dec.{ltb}
 use borrow.Author.Tests.{lt-ltb, le-ltb, ltb-true}
-use Rattle.model.specs.Choice.{pick, _and_, every}
-use Rattle.model.proofs.Choice.{clash, on-pick, pick-true, pick-false, both, join, and-false, and-false-right, every-at}
+use Rattle.basics.specs.Choice.{pick, _and_, every}
+use Rattle.basics.proofs.Choice.{clash, on-pick, pick-true, pick-false, both, join, and-false, and-false-right, every-at}
 use Rattle.lines.specs.Fields.{digitOf, baseOf, valueOf, areDigits, isNumber, digitsIn, appended}
 use Rattle.lines.specs.declared.fields.Number.{Number}
 use Rattle.lines.specs.declared.fields.Number.the-variants.{Value, Bad}

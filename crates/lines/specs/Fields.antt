@@ -8,7 +8,7 @@ use mathlib.Core.List.{List, _++_}
 use lib.ListN.{length, getD, drop}
 use lib.Dec.{ltb, leb, eqb}
 use Rattle.bytes.specs.Bytes.{indexOf, slice}
-use Rattle.model.specs.Choice.{pick, _and_, every, tabulate}
+use Rattle.basics.specs.Choice.{pick, _and_, every, tabulate}
 use Rattle.lines.specs.declared.fields.Number.{Number}
 use Rattle.lines.specs.declared.fields.Number.the-variants.{Value, Bad}
 use Rattle.lines.specs.declared.fields.Read.{Read}

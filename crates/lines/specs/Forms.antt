@@ -8,7 +8,7 @@ use lib.ListN.{length, getD, take}
 use lib.Seq.{sets}
 use lib.Dec.{eqb, ltb, leb}
 use Rattle.io.specs.Digits.{digits, glyph}
-use Rattle.model.specs.Choice.{pick, joined}
+use Rattle.basics.specs.Choice.{pick, joined}
 
 abbrev pub digitByte : ℕ → ℕ
 digitByte d = 48 + d

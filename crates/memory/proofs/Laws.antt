@@ -10,10 +10,10 @@ use lib.Seq.{sets}
 use borrow.Author.Tests.{lt-ltb, le-ltb, eqb-true, ltb-true}
 use Rattle.wire.specs.BigEndian.{bytesOf, written}
 use Rattle.wire.proofs.Laws.{sets-whole}
-use Rattle.model.specs.Choice.{pick, _and_, joined}
+use Rattle.basics.specs.Choice.{pick, _and_, joined}
 use Rattle.model.specs.declared.Event.{Event}
-use Rattle.model.specs.declared.Found.{Found}
-use Rattle.model.specs.declared.Found.the-variants.{At, Nowhere}
+use Rattle.basics.specs.declared.Found.{Found}
+use Rattle.basics.specs.declared.Found.the-variants.{At, Nowhere}
 use Rattle.model.specs.declared.Removal.{Removal}
 use Rattle.model.specs.declared.Request.{Request}
 use Rattle.model.specs.declared.Request.the-variants.{Configure, Unconfigure, Query, Status, Cancel, Malformed}
@@ -24,7 +24,7 @@ use Rattle.model.specs.Journal.{codeNone, answeredEvent, cancelledEvent, codeBl
 use Rattle.model.specs.Messages.{effect}
 use Rattle.model.specs.Memory.{DR-MEM-OK, DR-MEM-RES-BLOCKED, addrIn, answering, answeredMemory, answeringError, requestNumber, requested, rightForm, rises, argumentOf, blocked, cancelling, hasRecords, marked, memoryReply, reporting, requestOf, resultRecord, sizeIn, statusRecord}
 use Rattle.model.specs.Handler.{Handles}
-use Rattle.model.proofs.Choice.{on-pick, both, and-false, and-false-right}
+use Rattle.basics.proofs.Choice.{on-pick, both, and-false, and-false-right}
 use Rattle.model.proofs.Rules.{sound-facts, sound-block}
 use Rattle.model.proofs.Sounds.{named-less}
 use Rattle.model.proofs.Replies.{memory-length, result-length, status-length}

@@ -14,7 +14,7 @@ ghost use mathlib.Core.List.{List};
 ghost use Prim.Native.Nat.{ℕ, _+_, _*_, _≤_, _<_};
 ghost use lib.ListN.{length};
 ghost use lib.Seq.{sets};
-ghost use Rattle.model.specs.Choice.{joined};
+ghost use Rattle.basics.specs.Choice.{joined};
 ghost use Rattle.model.specs.declared.Request.the-variants.{Configure, Unconfigure};
 ghost use Rattle.model.specs.Layout.{channelCount, memoryHeaderBytes, mostRecords, outputBytes, pairBytes, removalOf, replyHeaderBytes, statusBytes};
 ghost use Rattle.model.specs.Search.{BlocksInOrder};

@@ -10,11 +10,11 @@ use lib.Dec.{eqb}
 use borrow.Author.Tests.{eqb-true, eqb-false, leb-true, eq-eqb, ne-eqb, le-leb}
 use Rattle.wire.specs.BigEndian.{byteAt}
 use Rattle.wire.proofs.Laws.{byte-at}
-use Rattle.model.specs.Choice.{pick, _and_}
+use Rattle.basics.specs.Choice.{pick, _and_}
 use Rattle.model.specs.declared.Message.{Message}
 use Rattle.model.specs.declared.Message.the-variants.{InitReq, RegReq, RegAck, RegNack, Unreg, UnregAck, UnregNack, Data, Nack, Bad}
 use Rattle.model.specs.Messages.{DS-INIT-REQ, DS-REG-REQ, DS-REG-ACK, DS-REG-NACK, DS-UNREG, DS-UNREG-ACK, DS-UNREG-NACK, DS-DATA, DS-NACK, decoded, decodedByType, idFits, mostPayload, payloadFits, payloadLength, typeOf, wellFormed, wholeMessage}
-use Rattle.model.proofs.Choice.{both, clash, on-pick}
+use Rattle.basics.proofs.Choice.{both, clash, on-pick}
 use Rattle.messages.specs.Id.{noZero}
 use Rattle.model.specs.Layout.{dataHeaderBytes, dsHeaderBytes}
 

@@ -5,7 +5,7 @@ use mathlib.Core.Bool.{Bool, not}
 use mathlib.Core.List.{List}
 use lib.Dec.{eqb}
 use Rattle.wire.specs.BigEndian.{byteAt}
-use Rattle.model.specs.Choice.{every}
+use Rattle.basics.specs.Choice.{every}
 
 -- byte i of the id is not zero; the id is the payload from byte 12 on
 abbrev pub idByte : List ℕ → ℕ → Bool

@@ -17,15 +17,7 @@ ghost use mathlib.Core.Bool.{true};
 ghost use Prim.Native.Nat.{_+_, _≤_};
 ghost use lib.ListN.{length, drop};
 ghost use Rattle.wire.specs.BigEndian.{numberAt};
-ghost use Rattle.model.specs.Messages.{
-  payloadLength,
-  wholeMessage,
-  idFits,
-  payloadFits,
-  wellFormed,
-  decodedByType,
-  decoded,
-};
+ghost use Rattle.model.specs.Messages.{payloadLength, wholeMessage, idFits, payloadFits, wellFormed, decodedByType, decoded};
 ghost use Rattle.model.specs.Layout.{dataHeaderBytes};
 ghost use Rattle.messages.specs.Id.{noZero};
 // "it has 8 + payload_len bytes, payload_len is at most 4,096"

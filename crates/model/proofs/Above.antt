@@ -8,7 +8,7 @@ use mathlib.Core.List.{List}
 use lib.ListN.{length, getD}
 use lib.Dec.{eqb, leb}
 use borrow.Author.Tests.{leb-true, eqb-true, eqb-false, ne-eqb}
-use Rattle.model.specs.Choice.{pick, _and_}
+use Rattle.basics.specs.Choice.{pick, _and_}
 use Rattle.model.specs.declared.Event.{Event}
 use Rattle.model.specs.Layout.{devicesOf, deviceConfiguredPlace, deviceWords, mostDevices, deviceCountWord, firstDeviceWord, firstPermissionWord, orderWord, delayWord, idCountWord, stateWords, withDevice}
 use Rattle.model.specs.Devices.{devicesKeep}

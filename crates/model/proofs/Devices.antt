@@ -8,11 +8,11 @@ use mathlib.Core.List.{List, [], _∷_}
 use lib.ListN.{length, getD, set}
 use lib.Dec.{eqb, leb}
 use borrow.Author.Tests.{leb-true, le-leb, eqb-true, eqb-false}
-use Rattle.model.specs.Choice.{_and_, every, tabulate}
+use Rattle.basics.specs.Choice.{every, tabulate}
 use Rattle.model.specs.Layout.{Device, noDevice, deviceIn, deviceAt, nameBytesIn, nameByteIn, devicesOf, wordBytes, namePlace, nameBytesPlace, busyPlace, deviceConfiguredPlace, deviceWords, mostDevices, mostNameBytes, deviceCountWord, firstDeviceWord, firstPermissionWord, stateWords, withDevice}
 use Rattle.model.specs.Devices.{wordsHolding, paddingBytes, nameKeeps, deviceKeeps, isDevice, deviceApart, devicesKeep}
 use Rattle.model.specs.Reading.{devicesShown, asNow, deviceNow}
-use Rattle.model.proofs.Choice.{both, join, every-at, every-make, every-same, tabulate-same, tabulate-set, tabulate-at}
+use Rattle.basics.proofs.Choice.{both, join, every-at, every-make, every-same, tabulate-same, tabulate-set, tabulate-at}
 use Rattle.model.proofs.Words.{Agree, device-frame, device-word}
 
 -- The words that say device i, whether it is configured left out, are the same in both lists.

@@ -8,7 +8,7 @@ use mathlib.Core.List.{List, []}
 use lib.ListN.{length, getD}
 use lib.Dec.{eqb, leb, ltb}
 use borrow.Author.Tests.{leb-true, le-leb, ltb-true, ne-eqb, eqb-true, eqb-false}
-use Rattle.model.specs.Choice.{pick, _and_, _or_, every, clearedFrom, tabulate}
+use Rattle.basics.specs.Choice.{pick, _or_, every, clearedFrom, tabulate}
 use Rattle.model.specs.declared.Event.{Event}
 use Rattle.model.specs.Layout.{PeerId, idIn, idAt, idBytesIn, idByteIn, idsOf, wordBytes, idPlace, idBytesPlace, idMinorPlace, idWords, mostIds, mostIdBytes, highestMinor, channelCount, markWords, peerWords, idCountWord, firstIdWord, firstPeerWord, stateWords, readyAt, peeredAt, peerHandleAt, peerMinorAt, withChannel}
 use Rattle.model.specs.Devices.{wordsHolding, paddingBytes, sameName}
@@ -16,7 +16,7 @@ use Rattle.model.specs.Peers.{idBytesKeep, idKeeps, idApart, idsKeep, pe
 use Rattle.model.specs.Journal.{kindNoted, kindReady, kindClosed, kindVersionRefused, kindPeerRegistered, kindPeerEnded, fieldsOf}
 use Rattle.model.specs.Messages.{Effect, effect}
 use Rattle.model.specs.Reading.{Peer, noPeer, peer, peerPlace, peersShown, readPeers, idsShown}
-use Rattle.model.proofs.Choice.{both, join, every-at, every-make, every-same, tabulate-same, tabulate-cleared}
+use Rattle.basics.proofs.Choice.{both, join, every-at, every-make, every-same, tabulate-same, tabulate-cleared}
 use Rattle.model.proofs.Words.{Agree, channel-frame, channel-peers, channel-unpeered}
 
 -- The words that say id p are the same in both lists.

@@ -10,13 +10,13 @@ use lib.ListN.{length, length-append}
 use lib.Dec.{eqb}
 use Rattle.wire.specs.BigEndian.{bytesOf, numberAt}
 use Rattle.wire.proofs.Laws.{length-bytes, number-after}
-use Rattle.model.specs.Choice.{joined}
+use Rattle.basics.specs.Choice.{joined}
 use Rattle.model.specs.declared.Removal.{Removal}
 use Rattle.model.specs.Messages.{DS-DATA, services, serviceOf, dsMessage, initAck, initNack, regReq, regAck, regNack, unreg, unregAck, unregNack, dsData, nack}
 use Rattle.model.specs.Memory.{memoryReply, resultRecord, queryRecord, permanentRange, statusRecord}
 use Rattle.model.specs.DeviceRequests.{deviceReply}
 use Rattle.model.specs.Orders.{orderReply}
-use Rattle.model.proofs.Choice.{on-pick, joined-length}
+use Rattle.basics.proofs.Choice.{on-pick, joined-length}
 use Rattle.model.specs.Layout.{dsHeaderBytes, mostRecords, outputBytes, queryBytes, replyHeaderBytes, resultBytes, statusBytes}
 
 message-length : (type : ℕ) (payload : List ℕ) → length (dsMessage type payload) ≡ dsHeaderBytes + length payload

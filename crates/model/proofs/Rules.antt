@@ -8,14 +8,14 @@ use native.Mathlib.Omega.{arith}
 use lib.ListN.{length}
 use lib.Dec.{leb, eqb}
 use borrow.Author.Tests.{not-true, leb-true, ltb-true, eqb-true, eqb-false, le-leb, lt-ltb, eq-eqb, ne-eqb}
-use Rattle.model.specs.Choice.{pick, _and_, _or_, every}
+use Rattle.basics.specs.Choice.{pick, _and_, _or_, every}
 use Rattle.model.specs.declared.Removal.{Removal}
 use Rattle.model.specs.Layout.{readyAt, stageAt, handleAt, minorAt, blocksOf, Block, blockAt, lastOf, heldOf, outstandingOf, cancelledOf, isSet, removalOf, channelCount, firstBlockWord, highestMinor, highestNumber, mostBlocks, mostHeld, mostRecords, placeCount, serviceCount, stageIdle, stageOffered, stageRegistered, stateWords, firstDeviceWord, devicesOf, firstIdWord, idsOf}
 use Rattle.model.specs.Peers.{idsKeep, peersSound}
 use Rattle.model.specs.Devices.{devicesKeep}
 use Rattle.model.specs.Blocks.{endOf, blockKeeps, endBefore, blocksKeep, highestEnd, mostPages, pageSize}
 use Rattle.model.specs.State.{serviceSound, serviceSoundAt, handleApart, removalRoom, collectedSound, resultsSound, removalSound, outstandingSound, ordersSound, sound, isOurs, ourHandle}
-use Rattle.model.proofs.Choice.{clash, both, each-of, join, all-of, every-at, every-make}
+use Rattle.basics.proofs.Choice.{clash, both, each-of, join, all-of, every-at, every-make}
 
 -- The handles that are ours.
 pub record Ours (first last handle : ℕ) : Type 0 where

@@ -12,14 +12,14 @@ use lib.ListN.{length, take, getD}
 use lib.Seq.{getD-take}
 use lib.Dec.{ltb, eqb}
 use borrow.Author.Tests.{leb-true, eqb-true, eqb-false, ltb-true, ltb-false, eq-eqb, ne-eqb, lt-ltb, le-ltb}
-use Rattle.model.specs.Choice.{pick, _and_, halvings, halvingsWithin, firstBelow}
-use Rattle.model.specs.declared.Found.the-variants.{Nowhere}
+use Rattle.basics.specs.Choice.{pick, _and_, halvings, halvingsWithin, firstBelow}
+use Rattle.basics.specs.declared.Found.the-variants.{Nowhere}
 use Rattle.model.specs.declared.Searched.{Searched}
 use Rattle.model.specs.Layout.{Block, blockIn, blockAt, blocksOf, blockWords, blockCountWord, pagesPlace, mostBlocks, firstBlockWord, withConfigured}
 use Rattle.model.specs.Blocks.{sizeOf, blockKeeps, endBefore, blocksKeep, acceptedBlocks, names, namedIn}
 use Rattle.model.specs.Search.{Search, belowMiddle, aboveMiddle, middleOf, foundAs, lookedFirst, foundThere, turnAt, searchWithin, searchLeft, searchIn, searchOf, InOrder, BlocksInOrder, Tells, SameTold, SearchHolds}
 use Rattle.model.specs.State.{sound}
-use Rattle.model.proofs.Choice.{on-pick, both, and-false, every-at, first-is, first-nowhere}
+use Rattle.basics.proofs.Choice.{on-pick, both, and-false, every-at, first-is, first-nowhere}
 use Rattle.model.proofs.Words.{configured-frame}
 use Rattle.model.proofs.Rules.{Keeps, block-rules, sound-facts}
 

@@ -11,14 +11,14 @@ use mathlib.Core.List.{List}
 use lib.ListN.{length, getD, set, replicate, length-set, getD-replicate}
 use lib.Seq.{getD-set-same, getD-set-other, length-sets}
 use borrow.Author.Tests.{leb-true, eqb-true}
-use Rattle.model.specs.Choice.{pick, every, tabulate, _and_, _or_}
+use Rattle.basics.specs.Choice.{pick, every, tabulate, _and_, _or_}
 use Rattle.model.specs.Layout.{withCounts, journalWords, outstandingOf, blocksOf, blockIn, blockAt, lastOf, heldOf, blockCountWord, blockWords, configuredPlace, firstBlockWord, firstPlace, firstStageWord, lastWord, mostBlocks, outstandingWord, pagesPlace, permanentPlace, serviceWords, stateWords, noBlock, deviceWords, mostDevices, deviceConfiguredPlace, deviceCountWord, firstDeviceWord, firstPermissionWord, noDevice, deviceIn, deviceAt, devicesOf, channelCount, readyAt, idWords, mostIds, idCountWord, firstIdWord, firstPeerWord, peerWords, idsOf, peeredAt}
 use Rattle.model.specs.Peers.{acceptedIds, idsKeep}
 use Rattle.model.specs.Devices.{acceptedDevices, devicesKeep}
 use Rattle.model.specs.Blocks.{blockKeeps, endBefore, blocksKeep, withList, setupState, Lists, acceptedBlocks, acceptedLists, noLists, names, namedIn, namedBlock}
 use Rattle.model.specs.State.{ordersSound, sound}
 use Rattle.model.specs.Reading.{stageOf, channelsOf, servicesOf, blocksShown, removalShown, viewOf, setupView, devicesShown, setupDevices, orderShown, ordersShown, setupOrders, noPeer, peersShown, setupPeers, idsShown, setupIds}
-use Rattle.model.proofs.Choice.{both, every-at, tabulate-same, first-same}
+use Rattle.basics.proofs.Choice.{both, every-at, tabulate-same, first-same}
 use Rattle.model.proofs.Words.{sets-below, sets-above, sets-at, removal-same, counts-frame, counts-length, last-counts, held-counts}
 use Rattle.model.proofs.View.{Shape, channels-same, services-same, block-same, counts-view}
 use Rattle.model.proofs.Above.{orders-kept, orders-shown-same}

@@ -8,7 +8,7 @@ use native.Mathlib.Omega.{arith}
 use lib.ListN.{length, getD}
 use lib.Dec.{eqb}
 use borrow.Author.Tests.{eqb-true, eqb-false, eq-eqb, not-true}
-use Rattle.model.specs.Choice.{pick, _and_}
+use Rattle.basics.specs.Choice.{pick}
 use Rattle.model.specs.declared.Removal.{Removal}
 use Rattle.model.specs.Layout.{readyAt, stageAt, handleAt, minorAt, blocksOf, Block, blockAt, outstandingOf, wordOf, removalOf, withChannel, withService, withConfigured, withCounts, withRemoval, withoutRemoval, blockCountWord, cancelledWord, channelCount, channelWords, firstBlockWord, firstHandleWord, firstMinorWord, firstStageWord, highestNumber, lastWord, mostBlocks, mostHeld, outstandingWord, placeCount, serviceCount, serviceWords, stateWords, stageIdle, firstNumberedWord, lastOf, heldOf, heldWord, withNumber, deviceCountWord, devicesOf, firstDeviceWord, firstIdWord, idsOf}
 use Rattle.model.specs.Devices.{devicesKeep}
@@ -19,9 +19,9 @@ use Rattle.model.proofs.Peers.{ids-same, peers-same}
 use Rattle.model.specs.Blocks.{endOf, blockKeeps, endBefore, names, namedBlock}
 use Rattle.model.specs.State.{collectedSound, serviceSound, roomOf, removalRoom, ordersSound, sound, roomAt}
 use Rattle.model.specs.Reading.{flagged}
-use Rattle.model.proofs.Choice.{clash, first-same, first-facts}
-use Rattle.model.specs.declared.Found.{Found}
-use Rattle.model.specs.declared.Found.the-variants.{At, Nowhere}
+use Rattle.basics.proofs.Choice.{clash, first-same, first-facts}
+use Rattle.basics.specs.declared.Found.{Found}
+use Rattle.basics.specs.declared.Found.the-variants.{At, Nowhere}
 use Rattle.model.proofs.Words.{Agree, Arrays, service-frame, service-word, configured-frame, counts-frame, last-counts, held-counts, channel-frame, channel-ready, channel-zero, removal-frame, removal-same, removal-back, head-back, without-frame, number-frame, number-above}
 use Rattle.model.proofs.View.{block-same, flag-other, flag-here}
 use Rattle.model.proofs.Rules.{Base, Apart, block-rules, block-last, Removes, RemovalFacts, service-idle, Sound, sound-facts, sound-test}

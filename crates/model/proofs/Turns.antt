@@ -7,7 +7,7 @@ use mathlib.Core.Bool.{Bool, true}
 use mathlib.Core.List.{List}
 use lib.ListN.{length}
 use lib.Dec.{ltb}
-use Rattle.model.specs.Choice.{_or_}
+use Rattle.basics.specs.Choice.{_or_}
 use Rattle.model.specs.declared.Removal.{Removal}
 use Rattle.model.specs.Layout.{Block, blockAt, blocksOf, outstandingOf, removalOf, withConfigured, withRemoval, blockCountWord, lastWord, outstandingWord, stateWords, mostBlocks, firstNumberedWord}
 use Rattle.model.specs.Blocks.{names, namedBlock}
@@ -16,7 +16,7 @@ use Rattle.model.specs.Memory.{marked}
 use Rattle.model.specs.Messages.{Effect}
 use Rattle.model.specs.Reading.{flagged}
 use Rattle.model.specs.Work.{working}
-use Rattle.model.proofs.Choice.{first-same}
+use Rattle.basics.proofs.Choice.{first-same}
 use Rattle.model.proofs.Words.{Agree, Arrays, removal-frame, removal-same, removal-back, head-back}
 use Rattle.model.proofs.Rules.{Given}
 use Rattle.model.proofs.Sounds.{count-same, at-same, block-named, by-flag, count-flag}

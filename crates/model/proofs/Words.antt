@@ -9,11 +9,11 @@ use lib.ListN.{length, getD, set, replicate, length-set, getD-replicate}
 use lib.Seq.{sets, ext-getD, getD-set-same, getD-set-other, length-sets}
 use lib.Dec.{ltb}
 use borrow.Author.Tests.{ltb-true, ltb-false}
-use Rattle.model.specs.Choice.{tabulate}
+use Rattle.basics.specs.Choice.{tabulate}
 use Rattle.model.specs.declared.Removal.{Removal}
 use Rattle.model.proofs.Marks.{no-bit, set-same, set-other, cleared-same, cleared-other}
 use Rattle.model.specs.Layout.{isSet, wordOf, removalOf, removalHead, withChannel, withService, withConfigured, withCounts, withRemoval, withoutRemoval, outstandingOf, cancelledOf, blockWords, cancelledWord, channelCount, channelWords, collectedWord, configuredPlace, countWord, firstAddressWord, firstBlockWord, firstResultWord, firstSizeWord, firstStageWord, heldWord, lastWord, mostRecords, outstandingWord, placeCount, positionWord, removalChannelWord, removalHandleWord, removalWords, requestWord, serviceWords, stateWords, headWords, firstNumberedWord, numberWords, withNumber, mostBlocks, deviceConfiguredPlace, deviceCountWord, deviceWords, firstDeviceWord, mostDevices, withDevice, serviceCount, shutdownService, firstPermissionWord, orderWord, permissionAt, orderOf, delayOf, withPermission, withOrder, mostIds, markWords, peerWords, firstPeerWord, bitSet, bitCleared, marksAt, peeredAt, peerHandleAt, peerMinorAt, withPeer, withoutPeer}
-use Rattle.model.proofs.Choice.{tabulate-at, tabulate-length, tabulate-same}
+use Rattle.basics.proofs.Choice.{tabulate-at, tabulate-length, tabulate-same}
 
 -- A run of stores: before it, after it, outside it, inside it.
 pub sets-below : (l v : List ℕ) (at j : ℕ) → j < at → getD (sets l at v) j 0 ≡ getD l j 0

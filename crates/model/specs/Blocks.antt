@@ -6,8 +6,8 @@ use mathlib.Core.List.{List, []}
 use lib.ListN.{length, set, replicate}
 use lib.Seq.{sets}
 use lib.Dec.{leb, eqb}
-use Rattle.model.specs.declared.Found.{Found}
-use Rattle.model.specs.Choice.{pick, _and_, every, firstBelow}
+use Rattle.basics.specs.declared.Found.{Found}
+use Rattle.basics.specs.Choice.{pick, _and_, every, firstBelow}
 use Rattle.model.specs.Layout.{Block, blockIn, blocksOf, mostBlocks, blockWords, stateWords, blockCountWord, firstBlockWord, deviceWords, deviceCountWord, idWords, idCountWord}
 use Rattle.model.specs.Devices.{acceptedDevices}
 use Rattle.model.specs.Peers.{acceptedIds}

@@ -6,8 +6,8 @@ use mathlib.Core.List.{List}
 use lib.ListN.{length}
 use lib.Dec.{leb, eqb}
 use Rattle.wire.specs.BigEndian.{byteAt}
-use Rattle.model.specs.declared.Found.{Found}
-use Rattle.model.specs.Choice.{_and_, every, firstBelow}
+use Rattle.basics.specs.declared.Found.{Found}
+use Rattle.basics.specs.Choice.{_and_, every, firstBelow}
 use Rattle.model.specs.Layout.{Device, deviceIn, nameBytesIn, nameByteIn, devicesOf, mostDevices, mostNameBytes, wordBytes, deviceWords, firstDeviceWord}
 
 -- the words that hold n bytes, and the bytes after those n in the last of them

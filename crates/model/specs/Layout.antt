@@ -21,7 +21,7 @@ use lib.ListN.{getD, set, replicate}
 use lib.Seq.{sets}
 use lib.Bits.{bitAnd, bitOr, bitXor}
 use lib.Dec.{eqb}
-use Rattle.model.specs.Choice.{tabulate, halvings}
+use Rattle.basics.specs.Choice.{tabulate, halvings}
 use Rattle.model.specs.declared.Removal.{Removal}
 
 -- The counts and limits of 01 and of 02's tickets.

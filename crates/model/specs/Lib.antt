@@ -1,4 +1,3 @@
-pub mod Choice
 pub mod Layout
 pub mod Devices
 pub mod Peers
@@ -14,13 +13,7 @@ pub mod DeviceRequests
 pub mod Orders
 pub mod Calls
 pub mod Reading
-pub mod Demand3
 pub mod Replay
 pub mod Text
-pub mod Repeats
-pub mod Ends
-pub mod Kept
 pub mod Contracts
 pub mod Handler
-pub mod Day
-pub mod Encoding

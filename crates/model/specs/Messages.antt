@@ -6,9 +6,9 @@ use mathlib.Core.List.{List, [], _∷_, _++_}
 use lib.ListN.{length, getD, drop}
 use lib.Dec.{leb, ltb, eqb}
 use Rattle.wire.specs.BigEndian.{byteAt, numberAt, bytesOf}
-use Rattle.model.specs.Choice.{pick, _and_, _or_, every, firstBelow, isFound}
-use Rattle.model.specs.declared.Found.{Found}
-use Rattle.model.specs.declared.Found.the-variants.{At, Nowhere}
+use Rattle.basics.specs.Choice.{pick, _and_, _or_, every, firstBelow, isFound}
+use Rattle.basics.specs.declared.Found.{Found}
+use Rattle.basics.specs.declared.Found.the-variants.{At, Nowhere}
 use Rattle.model.specs.declared.Route.{Route}
 use Rattle.model.specs.declared.Route.the-variants.{Memory, Devices, Orders, Host}
 use Rattle.model.specs.declared.Message.{Message}

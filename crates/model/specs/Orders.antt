@@ -7,7 +7,7 @@ use mathlib.Core.List.{List, [], _∷_, _++_}
 use lib.ListN.{length}
 use lib.Dec.{ltb, eqb}
 use Rattle.wire.specs.BigEndian.{numberAt, bytesOf}
-use Rattle.model.specs.Choice.{pick}
+use Rattle.basics.specs.Choice.{pick}
 use Rattle.model.specs.Layout.{shutdownService, shutdownBytes, panicBytes, orderNone, orderShutdown, orderPanic, permissionAt, orderOf, isSet, wordOf, withPermission, withOrder}
 use Rattle.model.specs.Journal.{permittedEvent, takenEvent, orderedEvent}
 use Rattle.model.specs.Messages.{Effect, effect, dsData}

@@ -5,8 +5,8 @@ use mathlib.Core.Bool.{Bool, not}
 use mathlib.Core.List.{List}
 use lib.ListN.{length}
 use lib.Dec.{leb, ltb, eqb}
-use Rattle.model.specs.declared.Found.{Found}
-use Rattle.model.specs.Choice.{_and_, _or_, every, firstBelow}
+use Rattle.basics.specs.declared.Found.{Found}
+use Rattle.basics.specs.Choice.{_and_, _or_, every, firstBelow}
 use Rattle.model.specs.Layout.{idIn, idBytesIn, idByteIn, idsOf, idAt, peeredAt, peerHandleAt, peerMinorAt, mostIds, mostIdBytes, mostPeers, highestMinor, idWords}
 use Rattle.model.specs.Devices.{paddingBytes, sameName}
 

@@ -6,9 +6,9 @@ use mathlib.Core.Bool.{true}
 use mathlib.Core.List.{List, [], _∷_, List·Memᴰ}
 use lib.ListN.{length, take, getD}
 use lib.Dec.{ltb, eqb}
-use Rattle.model.specs.Choice.{pick, halvings}
-use Rattle.model.specs.declared.Found.{Found}
-use Rattle.model.specs.declared.Found.the-variants.{At, Nowhere}
+use Rattle.basics.specs.Choice.{pick, halvings}
+use Rattle.basics.specs.declared.Found.{Found}
+use Rattle.basics.specs.declared.Found.the-variants.{At, Nowhere}
 use Rattle.model.specs.declared.Searched.{Searched}
 use Rattle.model.specs.Layout.{Block, blockIn, blockAt, blocksOf, blockWords, mostBlocks, firstBlockWord}
 use Rattle.model.specs.Blocks.{sizeOf, mostPages, blocksKeep, acceptedBlocks, namedIn}

@@ -11,9 +11,9 @@ use mathlib.Core.Bool.{Bool, not}
 use mathlib.Core.List.{List}
 use lib.ListN.{getD}
 use lib.Dec.{ltb, leb, eqb}
-use Rattle.model.specs.Choice.{pick, _and_, _or_, every}
-use Rattle.model.specs.declared.Found.{Found}
-use Rattle.model.specs.declared.Found.the-variants.{At, Nowhere}
+use Rattle.basics.specs.Choice.{pick, _and_, _or_, every}
+use Rattle.basics.specs.declared.Found.{Found}
+use Rattle.basics.specs.declared.Found.the-variants.{At, Nowhere}
 use Rattle.model.specs.declared.Removal.{Removal}
 use Rattle.model.specs.Layout.{channelCount, serviceCount, placeCount, mostRecords, mostHeld, highestNumber, highestMinor, stageIdle, stageOffered, stageRegistered, readyAt, stageAt, handleAt, minorAt, firstBlockWord, blocksOf, blockAt, lastOf, heldOf, outstandingOf, cancelledOf, removalOf, firstDeviceWord, devicesOf, shutdownService, panicService, orderPanic, orderShutdown, highestDelay, permissionAt, orderOf, delayOf, firstIdWord, idsOf}
 use Rattle.model.specs.Devices.{devicesKeep}

@@ -12,10 +12,10 @@ use lib.Dec.{eqb}
 use borrow.Author.Tests.{eq-eqb, eqb-true}
 use Rattle.wire.specs.BigEndian.{byteAt, numberAt, bytesOf}
 use Rattle.wire.proofs.Laws.{number-split, number-bound, number-of-bytes}
-use Rattle.model.specs.Choice.{_and_, every, tabulate}
+use Rattle.basics.specs.Choice.{_and_, every, tabulate}
 use Rattle.model.specs.Layout.{wordBytes, wordByte}
-use Rattle.model.proofs.Choice.{both, every-at, every-make, every-same, tabulate-same}
-use Rattle.model.proofs.Loops.{refute, every-fails}
+use Rattle.basics.proofs.Choice.{both, every-at, every-make, every-same, tabulate-same}
+use Rattle.basics.proofs.Loops.{refute, every-fails}
 use Rattle.names.specs.NameWords.{wholeWord, lastWord, sameBytes}
 
 -- two tests that follow from each other are the same

@@ -10,10 +10,10 @@ use lib.ListN.{length, getD, List·getD-eq-default}
 use lib.Dec.{leb, ltb, eqb}
 use borrow.Author.Tests.{eq-eqb, ne-eqb, eqb-true, eqb-false, le-leb, leb-true, ltb-true, ltb-false, not-true}
 use Rattle.wire.specs.BigEndian.{byteAt, numberAt}
-use Rattle.model.specs.Choice.{_and_, every, tabulate}
+use Rattle.basics.specs.Choice.{_and_, every, tabulate}
 use Rattle.model.specs.Layout.{wordByte, wordBytes}
 use Rattle.model.specs.Devices.{paddingBytes, sameName}
-use Rattle.model.proofs.Choice.{both, join, and-false, every-at, every-make, every-same, tabulate-at, tabulate-length, each-of}
+use Rattle.basics.proofs.Choice.{both, join, and-false, every-at, every-make, every-same, tabulate-at, tabulate-length, each-of}
 use Rattle.names.specs.NameWords.{wholeWord, lastWord, sameBytes, heldByte, heldBytes, padded, holdsName}
 use Rattle.names.proofs.Bytes.{test-same, whole-byte, last-before, last-after, bytes-instead, number-byte}
 

@@ -8,10 +8,10 @@ use native.Mathlib.Omega.{arith}
 use lib.Dec.{eqb, ltb}
 use lib.Bits.{or-shr, or-mod, and-shr, and-mod, and-mask, or-zero-r, bitAnd, bitOr, bitXor, and-block, or-block, xor-block, and-zero-r, and-le-l, and-le-r, or-add-and, or-lt}
 use borrow.Author.Tests.{eq-eqb, ne-eqb, eqb-true, eqb-false, not-true, lt-ltb, le-ltb, ltb-true, ltb-false}
-use Rattle.model.specs.Choice.{pick, _and_, every}
+use Rattle.basics.specs.Choice.{pick, _and_, every}
 use Rattle.model.specs.Layout.{wordBytes, wordByte}
-use Rattle.model.proofs.Choice.{every-at, every-make, clash, join, pick-true, pick-false}
-use Rattle.model.proofs.Loops.{refute}
+use Rattle.basics.proofs.Choice.{every-at, every-make, clash, join, pick-true, pick-false}
+use Rattle.basics.proofs.Loops.{refute}
 use Rattle.names.specs.NameWords.{wholeWord, lastWord}
 use Rattle.names.proofs.Bytes.{test-same, whole-byte, last-before, last-after, zero-byte, zero-word}
 

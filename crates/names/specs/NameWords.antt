@@ -5,7 +5,7 @@ use mathlib.Core.Bool.{Bool, not}
 use mathlib.Core.List.{List}
 use lib.ListN.{getD}
 use lib.Dec.{eqb, leb}
-use Rattle.model.specs.Choice.{_and_, every, tabulate}
+use Rattle.basics.specs.Choice.{_and_, every, tabulate}
 use Rattle.model.specs.Layout.{wordBytes, wordByte}
 use Rattle.model.specs.Devices.{paddingBytes}
 

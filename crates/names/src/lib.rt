@@ -7,7 +7,7 @@ ghost use Prim.Native.Nat.{_+_, _*_, _^_, _≤_, _<_};
 ghost use lib.Dec.{eqb};
 ghost use lib.ListN.{length, getD};
 ghost use Rattle.wire.specs.BigEndian.{byteAt, numberAt};
-ghost use Rattle.model.specs.Choice.{every};
+ghost use Rattle.basics.specs.Choice.{every};
 ghost use Rattle.model.specs.Layout.{wordBytes};
 ghost use Rattle.model.specs.Devices.{sameName, wordsHolding};
 ghost use Rattle.names.specs.NameWords.{wholeWord, lastWord, sameBytes, heldBytes, padded, holdsName};

@@ -6,7 +6,7 @@ use mathlib.Core.Bool.{true, false}
 use mathlib.Core.List.{List, []}
 use lib.ListN.{length}
 use borrow.Author.Tests.{eq-eqb, ne-eqb}
-use Rattle.model.specs.Choice.{pick}
+use Rattle.basics.specs.Choice.{pick}
 use Rattle.model.specs.Layout.{isSet, orderNone, permissionAt, orderOf}
 use Rattle.model.specs.Orders.{DOMAIN-SHUTDOWN-FAILURE, DOMAIN-SHUTDOWN-INVALID-MSG, reasonDenied, reasonPending, orderNumber, orderBytes, notOrdered, orderingFor, answeredOrder}
 

@@ -10,10 +10,10 @@ use lib.Pow.{shl-exact}
 use native.Mathlib.Numerals.{add-one}
 use lib.Dec.{eqb, leb}
 use borrow.Author.Tests.{eqb-true, ltb-true, eq-eqb, ne-eqb, lt-ltb}
-use Rattle.model.specs.Choice.{_and_, _or_, every}
+use Rattle.basics.specs.Choice.{_and_, _or_, every}
 use Rattle.model.specs.Layout.{mostIds, mostPeers, idsOf, idAt, peeredAt, peerHandleAt, peerMinorAt}
 use Rattle.model.specs.Peers.{topBit, peersBelow, peerSound, peerApart, peersSound}
-use Rattle.model.proofs.Choice.{both, each-of}
+use Rattle.basics.proofs.Choice.{both, each-of}
 
 -- the bit of an id, in 64 bits
 pub own-bit : (p : ℕ) → p < mostIds → 1 * 2 ^ p % 2 ^ 64 ≡ 2 ^ p

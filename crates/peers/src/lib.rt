@@ -1,8 +1,8 @@
 // A channel's peer registrations: the services that the other end has registered with us, by the place of each one's id.
+use basics::Found;
 use model::CHANNEL_COUNT;
 use model::FIRST_ID_WORD;
 use model::FIRST_PEER_WORD;
-use model::Found;
 use model::ID_COUNT_WORD;
 use model::ID_MINOR_PLACE;
 use model::ID_WORDS;
@@ -16,7 +16,7 @@ ghost use mathlib.Core.Path.{_≡_};
 ghost use mathlib.Core.Bool.{true, not};
 ghost use Prim.Native.Nat.{ℕ, _<_};
 ghost use lib.Dec.{eqb};
-ghost use Rattle.model.specs.Choice.{_or_, every, isFound};
+ghost use Rattle.basics.specs.Choice.{_or_, every, isFound};
 ghost use Rattle.model.specs.Layout.{channelCount, marksAt, mostIds, peeredAt, peerHandleAt, peerMinorAt, readyAt, withPeer, withoutPeer};
 ghost use Rattle.model.specs.Peers.{isPeered, peerApart, peeredAs, peerFor, peersBelow, peerSound, peersSound};
 

@@ -9,14 +9,14 @@ use lib.Seq.{sets}
 use borrow.Author.Tests.{eq-eqb, ne-eqb}
 use Rattle.wire.specs.BigEndian.{bytesOf}
 use Rattle.wire.proofs.Laws.{sets-whole}
-use Rattle.model.specs.Choice.{pick, joined}
+use Rattle.basics.specs.Choice.{pick, joined}
 use Rattle.model.specs.declared.Event.{Event}
 use Rattle.model.specs.Layout.{memoryService, mostRecords, outputBytes, queryBytes, replyHeaderBytes}
 use Rattle.model.specs.Blocks.{namedBlock}
 use Rattle.model.specs.Journal.{codeNone, answeredEvent, stored}
 use Rattle.model.specs.Memory.{DR-MEM-OK, addrIn, answering, permanentBytes, permanentFirst, permanentRange, queryRecord, querying, sizeIn}
 use Rattle.model.specs.Handler.{Handles}
-use Rattle.model.proofs.Choice.{joined-length}
+use Rattle.basics.proofs.Choice.{joined-length}
 use Rattle.model.proofs.Replies.{query-length}
 use Rattle.records.specs.Header.{memoryHeader}
 use Rattle.records.proofs.Parts.{reply-length, reply-stored}

@@ -3,8 +3,8 @@
 use Prim.Native.Nat.{ℕ}
 use mathlib.Core.Path.{_≡_}
 use mathlib.Core.List.{List}
-use Rattle.model.specs.declared.Found.{Found}
-use Rattle.model.specs.declared.Found.the-variants.{At}
+use Rattle.basics.specs.declared.Found.{Found}
+use Rattle.basics.specs.declared.Found.the-variants.{At}
 use Rattle.model.specs.Blocks.{namedBlock}
 use Rattle.model.specs.Memory.{permanentBytes, permanentFirst}
 use Rattle.queries.specs.declared.Range.{Range}

@@ -1,6 +1,6 @@
 // QUERY: the permanent pages of each pair.
+use basics::Found;
 use model::DR_MEM_OK;
-use model::Found;
 use model::Handled;
 use model::MEMORY_SERVICE;
 use model::QUERY_BYTES;
@@ -11,7 +11,7 @@ ghost use mathlib.Core.Bool.{true};
 ghost use Prim.Native.Nat.{_+_, _*_, _≤_, _<_};
 ghost use lib.ListN.{length};
 ghost use lib.Seq.{sets};
-ghost use Rattle.model.specs.Choice.{joined};
+ghost use Rattle.basics.specs.Choice.{joined};
 ghost use Rattle.model.specs.Layout.{blocksOf, memoryHeaderBytes, mostRecords, outputBytes, pairBytes, queryBytes, replyHeaderBytes};
 ghost use Rattle.model.specs.State.{sound};
 ghost use Rattle.model.specs.Memory.{addrIn, permanentRange, queryRecord, querying, sizeIn};

@@ -13,7 +13,7 @@ use Rattle.model.proofs.Message.{the-type}
 use Rattle.model.specs.declared.Message.{Message}
 use Rattle.model.specs.declared.Message.the-variants.{InitReq, RegReq, RegAck, RegNack, Unreg, UnregAck, UnregNack, Data, Nack, Bad}
 use Rattle.model.specs.declared.Route.the-variants.{Memory, Devices, Orders, Host}
-use Rattle.model.specs.Choice.{pick, _or_}
+use Rattle.basics.specs.Choice.{pick, _or_}
 use Rattle.model.specs.Layout.{serviceCount, memoryService, deviceService, shutdownService, panicService}
 use Rattle.model.specs.Messages.{route}
 use Rattle.model.specs.Calls.{hears, toHost}

@@ -1,9 +1,9 @@
 // What a message received does: which channels hear it, and to which handler it goes; and the part of it that the host is shown.
+use basics::Found;
 use model::DS_INV_HDL;
 use model::DS_NACK;
 use model::DS_UNREG_ACK;
 use model::DS_UNREG_NACK;
-use model::Found;
 use model::Handled;
 use model::Message;
 use model::REGISTERED;
@@ -13,7 +13,7 @@ ghost use mathlib.Core.Path.{_≡_};
 ghost use mathlib.Core.Bool.{true};
 ghost use Prim.Native.Nat.{_≤_, _<_};
 ghost use lib.ListN.{length};
-ghost use Rattle.model.specs.declared.Found.the-variants.{At, Nowhere};
+ghost use Rattle.basics.specs.declared.Found.the-variants.{At, Nowhere};
 ghost use Rattle.model.specs.Layout.{channelCount, outputBytes};
 ghost use Rattle.model.specs.Peers.{peerFor};
 ghost use Rattle.model.specs.State.{sound};

@@ -10,11 +10,11 @@ use lib.ListN.{length, take, drop, length-append}
 use lib.Seq.{sets, sets-eq, drop-drop}
 use Rattle.wire.specs.BigEndian.{bytesOf, written}
 use Rattle.wire.proofs.Laws.{length-bytes, bytes-low, sets-append, sets-written, sets-whole}
-use Rattle.model.specs.Choice.{joined}
+use Rattle.basics.specs.Choice.{joined}
 use Rattle.model.specs.Layout.{replyHeaderBytes, resultBytes, dsHeaderBytes, mostRecords, outputBytes}
 use Rattle.model.specs.Messages.{dsMessage, dsData}
 use Rattle.model.specs.Memory.{memoryReply, DR-MEM-OK}
-use Rattle.model.proofs.Choice.{joined-length}
+use Rattle.basics.proofs.Choice.{joined-length}
 use Rattle.model.proofs.Replies.{memory-length}
 use Rattle.records.specs.Header.{memoryHeader}
 

@@ -1,8 +1,8 @@
 // The parts of a memory reply: its headers, and its result records.
+use basics::Found;
 use model::DR_MEM_OK;
 use model::DS_DATA;
 use model::DS_HEADER_BYTES;
-use model::Found;
 use model::REPLY_HEADER_BYTES;
 use model::RESULT_BYTES;
 use model::State;
@@ -12,7 +12,7 @@ ghost use Prim.Native.Nat.{_+_, _*_, _≤_, _<_};
 ghost use lib.ListN.{length};
 ghost use lib.Seq.{sets};
 ghost use Rattle.wire.specs.BigEndian.{bytesOf};
-ghost use Rattle.model.specs.declared.Found.the-variants.{At};
+ghost use Rattle.basics.specs.declared.Found.the-variants.{At};
 ghost use Rattle.model.specs.Layout.{mostBlocks, mostRecords, outputBytes, replyHeaderBytes, resultBytes};
 ghost use Rattle.model.specs.Search.{BlocksInOrder};
 ghost use Rattle.model.specs.Memory.{DR-MEM-OK, statusOf, resultRecord, statusAt, memoryReply};

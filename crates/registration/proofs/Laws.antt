@@ -7,13 +7,13 @@ use Prim.Native.Nat.{ℕ, _≤_, _<_, min}
 use native.Mathlib.Omega.{arith}
 use lib.Dec.{eqb, leb, ltb}
 use borrow.Author.Tests.{eq-eqb, ne-eqb, le-leb, lt-leb}
-use Rattle.model.specs.declared.Found.the-variants.{At, Nowhere}
-use Rattle.model.specs.Choice.{pick, _or_, isFound}
+use Rattle.basics.specs.declared.Found.the-variants.{At, Nowhere}
+use Rattle.basics.specs.Choice.{pick, _or_, isFound}
 use Rattle.model.specs.Layout.{firstIdWord, idAt, idsOf, mostIds, mostPeers, withPeer}
 use Rattle.model.specs.Peers.{topBit, idsKeep, isPeered, listedId, peerFor, peersBelow}
 use Rattle.model.specs.Journal.{peerRegisteredEvent}
 use Rattle.model.specs.Messages.{DS-REG-DUP, DS-REG-REQ, DS-REG-VER-NACK, effect, idTaken, isDuplicate, noting, notRegistering, regAck, regHandle, regId, registering, registeringAt, regMajor, regMinor, regNack}
-use Rattle.model.proofs.Choice.{pick-false, pick-true, first-facts}
+use Rattle.basics.proofs.Choice.{pick-false, pick-true, first-facts}
 use Rattle.model.proofs.Peers.{id-facts}
 
 -- a listed id, by its major

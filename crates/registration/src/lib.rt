@@ -1,9 +1,9 @@
 // 02, ticket 7: "The other end has services as well." What a REG_REQ of the peer does, and its UNREG.
+use basics::Found;
 use model::DS_REG_DUP;
 use model::DS_REG_REQ;
 use model::DS_REG_VER_NACK;
 use model::DS_UNREG;
-use model::Found;
 use model::Handled;
 use model::MOST_PEERS;
 use model::State;
@@ -14,8 +14,8 @@ ghost use mathlib.Core.List.{List};
 ghost use Prim.Native.Nat.{ℕ, _≤_, _<_};
 ghost use lib.ListN.{length};
 ghost use lib.Dec.{leb, ltb};
-ghost use Rattle.model.specs.declared.Found.the-variants.{At, Nowhere};
-ghost use Rattle.model.specs.Choice.{pick, _or_, isFound};
+ghost use Rattle.basics.specs.declared.Found.the-variants.{At, Nowhere};
+ghost use Rattle.basics.specs.Choice.{pick, _or_, isFound};
 ghost use Rattle.model.specs.Layout.{channelCount, mostIds, mostPeers, outputBytes, withPeer};
 ghost use Rattle.model.specs.Peers.{topBit, isPeered, peerFor, peersBelow};
 ghost use Rattle.model.specs.State.{sound};
@@ -115,7 +115,7 @@ fn register_id(
     }
     let most = id_list::highest_minor_of(state, place);
     let offered = wire::get16(message, 18);
-    let minor = model::lower(most, offered) as u16;
+    let minor = basics::lower(most, offered) as u16;
     accept(state, channel, place, handle, minor, out)
 }
 

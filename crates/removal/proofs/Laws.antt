@@ -10,10 +10,10 @@ use lib.Seq.{sets}
 use lib.Dec.{eqb, ltb}
 use borrow.Author.Tests.{eqb-true, leb-false, ltb-true, ne-eqb, eq-eqb, lt-leb, le-leb, lt-ltb, le-ltb}
 use Rattle.wire.specs.BigEndian.{written}
-use Rattle.model.specs.Choice.{pick, _or_, joined}
+use Rattle.basics.specs.Choice.{pick, _or_, joined}
 use Rattle.model.specs.declared.Event.{Event}
-use Rattle.model.specs.declared.Found.{Found}
-use Rattle.model.specs.declared.Found.the-variants.{At, Nowhere}
+use Rattle.basics.specs.declared.Found.{Found}
+use Rattle.basics.specs.declared.Found.the-variants.{At, Nowhere}
 use Rattle.model.specs.declared.Removal.{Removal}
 use Rattle.model.specs.Layout.{removalOf, blockAt, isSet, lastOf, cancelledOf, cancelledWord, firstAddressWord, firstNumberedWord, firstResultWord, firstSizeWord, mostBlocks, mostRecords, outputBytes, outstandingOf, outstandingWord, positionWord, replyHeaderBytes, resultBytes, withConfigured, withRemoval, withoutRemoval}
 use Rattle.model.specs.Blocks.{namedBlock}
@@ -23,7 +23,7 @@ use Rattle.model.specs.Messages.{effect}
 use Rattle.model.specs.Memory.{resultRecord, DR-MEM-OK, DR-MEM-RES-CANCELLED, DR-MEM-RES-FAILURE, DR-MEM-RES-NOWORK, DR-MEM-RES-OK, memoryReply}
 use Rattle.model.specs.Work.{lateReply, addrNow, allSettled, blockNow, collecting, collects, endCode, ending, failingCode, moving, pagesMoved, resultAt, settled, sizeNow, stepOf, stillRegistered, working, worksAt, worksOn}
 use Rattle.model.specs.Handler.{Handles, HandlesSilently, HandlesStep}
-use Rattle.model.proofs.Choice.{on-pick, or-false, pick-true, pick-false}
+use Rattle.basics.proofs.Choice.{on-pick, or-false, pick-true, pick-false}
 use Rattle.model.proofs.Words.{Agree, configured-frame, removal-same}
 use Rattle.model.proofs.Replies.{result-length}
 use Rattle.model.proofs.Rules.{RemovalFacts, sound-facts, sound-block}

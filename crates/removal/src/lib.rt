@@ -1,11 +1,11 @@
 // "Each work step does one thing": the work step of an outstanding removal, and the late reply at its end.
+use basics::Found;
 use model::DR_MEM_RES_CANCELLED;
 use model::DR_MEM_RES_FAILURE;
 use model::DR_MEM_RES_NOWORK;
 use model::DR_MEM_RES_OK;
 use model::DR_MEM_RES_PERM;
 use model::Event;
-use model::Found;
 use model::Handled;
 use model::MEMORY_SERVICE;
 use model::REGISTERED;
@@ -19,8 +19,8 @@ ghost use Prim.Native.Nat.{_+_, _-_, _<_, _≤_, min};
 ghost use lib.ListN.{length};
 ghost use lib.Seq.{sets};
 ghost use Rattle.wire.specs.BigEndian.{written};
-ghost use Rattle.model.specs.declared.Found.the-variants.{At};
-ghost use Rattle.model.specs.Choice.{_or_, joined};
+ghost use Rattle.basics.specs.declared.Found.the-variants.{At};
+ghost use Rattle.basics.specs.Choice.{_or_, joined};
 ghost use Rattle.model.specs.Layout.{blockAt, channelCount, isSet, mostBlocks, mostRecords, outputBytes, outstandingOf, removalOf, replyHeaderBytes, withRemoval};
 ghost use Rattle.model.specs.Search.{BlocksInOrder};
 ghost use Rattle.model.specs.State.{sound};
@@ -172,7 +172,7 @@ fn pages_moved(pages: u64, collected: u64, budget: u64) -> u64
     requires { ⌜ collected ≤ pages ⌝ }
     ensures { λ r. ⌜ r ≡ min budget (pages - collected) ⌝ }
 {
-    model::lower(budget, pages - collected)
+    basics::lower(budget, pages - collected)
 }
 
 // Collects n pages of the block; "when none remains the block becomes unconfigured and is settled OK."

@@ -1,4 +1,5 @@
 // The part of soundness that is of the removal. It reads the words themselves: to load the removal would copy them all for a few tests.
+use basics::Found;
 use model::CANCELLED_WORD;
 use model::CHANNEL_COUNT;
 use model::COLLECTED_WORD;
@@ -8,7 +9,6 @@ use model::DR_MEM_RES_OK;
 use model::FIRST_ADDRESS_WORD;
 use model::FIRST_RESULT_WORD;
 use model::FIRST_SIZE_WORD;
-use model::Found;
 use model::LAST_WORD;
 use model::MOST_RECORDS;
 use model::OUTSTANDING_WORD;
@@ -19,7 +19,7 @@ use model::State;
 ghost use mathlib.Core.Path.{_≡_};
 ghost use mathlib.Core.Bool.{true};
 ghost use Prim.Native.Nat.{_<_, _≤_};
-ghost use Rattle.model.specs.declared.Found.the-variants.{At};
+ghost use Rattle.basics.specs.declared.Found.the-variants.{At};
 ghost use Rattle.model.specs.Layout.{highestNumber, lastOf, mostBlocks, mostRecords, removalOf};
 ghost use Rattle.model.specs.Search.{BlocksInOrder};
 ghost use Rattle.model.specs.State.{collectedSound, outstandingSound, removalRoom, removalSound, resultSound, resultsSound, roomAt, roomOf};

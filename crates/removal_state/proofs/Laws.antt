@@ -8,7 +8,7 @@ use native.Mathlib.Omega.{arith}
 use lib.ListN.{length, getD, List·getD-eq-default}
 use Rattle.wire.specs.BigEndian.{byteAt, numberAt}
 use Rattle.model.specs.Layout.{removalOf, isSet, cancelledOf, mostRecords, removalChannelWord, removalHandleWord, requestWord, countWord, positionWord, collectedWord, firstAddressWord, firstSizeWord, firstResultWord}
-use Rattle.model.proofs.Choice.{tabulate-at}
+use Rattle.basics.proofs.Choice.{tabulate-at}
 
 module _ (s : List ℕ) {x : ℕ} where
   pub channel-is : x ≡ getD s removalChannelWord 0 → x ≡ removalOf s .channel

@@ -20,7 +20,7 @@ ghost use Prim.Native.Nat.{_+_, _*_, _<_, _≤_};
 ghost use lib.ListN.{getD, length};
 ghost use lib.Seq.{sets};
 ghost use Rattle.wire.specs.BigEndian.{numberAt};
-ghost use Rattle.model.specs.Choice.{tabulate};
+ghost use Rattle.basics.specs.Choice.{tabulate};
 ghost use Rattle.model.specs.Layout.{cancelledOf, collectedWord, countWord, firstAddressWord, firstResultWord, firstSizeWord, isSet, memoryHeaderBytes, mostRecords, outstandingOf, outstandingWord, pairBytes, positionWord, removalChannelWord, removalHandleWord, removalOf, requestWord, stateWords, withRemoval};
 ghost use Rattle.model.specs.Memory.{marked, newRemoval};
 ghost use Rattle.model.specs.Work.{settled, collecting};

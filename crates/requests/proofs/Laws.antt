@@ -8,11 +8,11 @@ use native.Mathlib.Omega.{arith}
 use lib.ListN.{length}
 use lib.Dec.{eqb}
 use borrow.Author.Tests.{ne-eqb, le-leb, leb-true, eqb-true, le-ltb, lt-ltb}
-use Rattle.model.specs.Choice.{pick, _and_}
+use Rattle.basics.specs.Choice.{pick, _and_}
 use Rattle.model.specs.declared.Request.{Request}
 use Rattle.model.specs.declared.Request.the-variants.{Configure, Unconfigure, Query, Status, Cancel, Malformed}
 use Rattle.model.specs.Memory.{requestType, argumentOf, hasRecords, hasNothing, requestOf, DR-MEM-CONFIGURE, DR-MEM-QUERY, DR-MEM-UNCONF-CANCEL, DR-MEM-UNCONF-STATUS, DR-MEM-UNCONFIGURE}
-use Rattle.model.proofs.Choice.{and-false, and-false-right, each-of}
+use Rattle.basics.proofs.Choice.{and-false, and-false-right, each-of}
 use Rattle.model.specs.Layout.{memoryHeaderBytes, mostRecords, pairBytes}
 
 -- the numbers of a request with records

@@ -16,7 +16,7 @@ ghost use mathlib.Core.Path.{_≡_};
 ghost use mathlib.Core.Bool.{true, not};
 ghost use Prim.Native.Nat.{_<_, _≤_};
 ghost use lib.Dec.{eqb, leb};
-ghost use Rattle.model.specs.Choice.{_or_, every};
+ghost use Rattle.basics.specs.Choice.{_or_, every};
 ghost use Rattle.model.specs.Layout.{channelCount, handleAt, highestNumber, lastOf, placeCount, readyAt, stageAt, stageIdle};
 ghost use Rattle.model.specs.State.{serviceSound, handleApart, isOurs, serviceSoundAt};
 

@@ -8,7 +8,7 @@ use native.Mathlib.Omega.{arith}
 use lib.ListN.{length, getD, length-take, List·getD-map}
 use borrow.Author.Tests.{leb-true, eqb-true}
 use Rattle.model.specs.Messages.{Service, serviceOf, noService}
-use Rattle.model.proofs.Choice.{every-at, each-of}
+use Rattle.basics.proofs.Choice.{every-at, each-of}
 use Rattle.services.specs.declared.Row.{Row}
 use Rattle.services.specs.Table.{serviceIn, rowFits, RowFits, noRow, TableRight, RowOf}
 use Rattle.model.specs.Layout.{serviceCount}

@@ -6,7 +6,7 @@ use mathlib.Core.Bool.{Bool, true, false, not}
 use mathlib.Core.List.{List, [], _∷_, map}
 use lib.ListN.{length, getD, take}
 use lib.Dec.{leb, eqb}
-use Rattle.model.specs.Choice.{_and_, every}
+use Rattle.basics.specs.Choice.{_and_, every}
 use Rattle.model.specs.Messages.{Service, services}
 use Rattle.services.specs.declared.Row.{Row}
 use Rattle.model.specs.Layout.{serviceCount}

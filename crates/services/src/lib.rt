@@ -20,20 +20,7 @@ ghost use Prim.Native.Nat.{_+_, _<_, _≤_};
 ghost use lib.ListN.{length};
 ghost use lib.Seq.{sets};
 ghost use Rattle.wire.specs.BigEndian.{bytesOf};
-ghost use Rattle.model.specs.Messages.{
-  route,
-  serviceOf,
-  dsMessage,
-  initAck,
-  initNack,
-  regReq,
-  regAck,
-  regNack,
-  unreg,
-  unregAck,
-  unregNack,
-  nack,
-};
+ghost use Rattle.model.specs.Messages.{route, serviceOf, dsMessage, initAck, initNack, regReq, regAck, regNack, unreg, unregAck, unregNack, nack};
 ghost use Rattle.model.specs.Layout.{serviceCount, outputBytes};
 ghost use Rattle.services.specs.Table.{serviceIn, RowFits, TableRight, RowOf};
 ghost use Rattle.services.specs.Output.{Wrote};

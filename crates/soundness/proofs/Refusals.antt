@@ -5,7 +5,7 @@ use mathlib.Core.Bool.{Bool, true, false}
 use mathlib.Core.List.{List, [], _∷_, _++_}
 use Prim.Native.Nat.{ℕ, _≤_, _<_}
 use borrow.Author.Tests.{lt-ltb, le-ltb, lt-leb, le-leb}
-use Rattle.model.specs.Choice.{pick}
+use Rattle.basics.specs.Choice.{pick}
 use Rattle.model.specs.Refusals.{Refusal, refusalIn, lentRows, actionRows, actionRefusal, drainRefusal}
 use Rattle.model.proofs.Calls.{row-passed}
 use Rattle.model.specs.Layout.{heldOf, highestNumber, lastOf, mostHeld, outputBytes}

@@ -4,7 +4,7 @@ use Prim.Native.Nat.{ℕ, _+_}
 use mathlib.Core.List.{List, [], _∷_}
 use lib.ListN.{getD}
 use lib.Dec.{eqb}
-use Rattle.model.specs.Choice.{pick}
+use Rattle.basics.specs.Choice.{pick}
 use Rattle.vio_model.specs.declared.Answer.{Answer}
 use Rattle.vio_model.specs.Layout.{agreedStage, askedStage, endedStage, stageWord}
 use Rattle.lines.specs.Forms.{lineOf}

@@ -7,8 +7,8 @@ use Prim.Native.Nat.{ℕ, _^_, _≤_, _<_}
 use native.Mathlib.Omega.{arith}
 use lib.Dec.{eqb}
 use borrow.Author.Tests.{eq-eqb, eqb-true, eqb-false, lt-ltb, ltb-true, le-leb, leb-true}
-use Rattle.model.specs.Choice.{pick, _and_}
-use Rattle.model.proofs.Choice.{both, join, on-pick}
+use Rattle.basics.specs.Choice.{pick, _and_}
+use Rattle.basics.proofs.Choice.{both, join, on-pick}
 use Rattle.vio_message.specs.declared.Message.{Message}
 use Rattle.vio_message.specs.declared.Words.{Words}
 use Rattle.vio_message.specs.Words.{InRange, unpacked}

@@ -10,8 +10,8 @@ use lib.ListN.{length, take, replicate, length-append, length-replicate}
 use lib.Seq.{length-take-le}
 use lib.Dec.{leb, ltb}
 use borrow.Author.Tests.{leb-true, leb-false, lt-ltb}
-use Rattle.model.specs.Choice.{_and_}
-use Rattle.model.proofs.Choice.{both, join}
+use Rattle.basics.specs.Choice.{_and_}
+use Rattle.basics.proofs.Choice.{both, join}
 use Rattle.vio_model.specs.declared.Answer.{Answer}
 use Rattle.vio_model.specs.Layout.{versionsOf}
 use Rattle.vio_model.specs.Versions.{countOf}

@@ -7,7 +7,7 @@ use Prim.Native.Nat.{ℕ, _+_, _≤_, _<_, min}
 use native.Mathlib.Omega.{arith}
 use lib.Dec.{ltb, eqb}
 use borrow.Author.Tests.{eq-eqb, ne-eqb, lt-ltb, le-leb, ltb-false}
-use Rattle.model.specs.Choice.{pick, _and_, _or_}
+use Rattle.basics.specs.Choice.{pick, _and_, _or_}
 use Rattle.vio_model.specs.declared.Session.the-variants.{Nothing, Asked, Agreed, Ended}
 use Rattle.vio_model.specs.declared.Effect.the-variants.{Becomes, Sends}
 use Rattle.vio_model.specs.Layout.{End}

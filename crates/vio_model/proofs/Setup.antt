@@ -16,7 +16,7 @@ use Rattle.vio_model.specs.TwoEnds.{SoundKept}
 use Rattle.vio_model.proofs.Versions.{list-rules}
 use Rattle.vio_model.proofs.Words.{sound-made}
 use Rattle.vio_model.proofs.Kept.{start-keeps, receive-keeps}
-use Rattle.model.specs.Choice.{pick, _and_}
+use Rattle.basics.specs.Choice.{pick, _and_}
 
 module _ (class accepts : ℕ) (l : List ℕ) (taken : acceptedList l ≡ true) where
   -- the words past the versions

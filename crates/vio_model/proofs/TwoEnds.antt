@@ -9,8 +9,8 @@ use native.Mathlib.Nat.{min-le-left}
 use lib.ListN.{length}
 use lib.Dec.{eqb, ltb}
 use borrow.Author.Tests.{eqb-true, eqb-false, ltb-true}
-use Rattle.model.specs.Choice.{pick, _and_}
-use Rattle.model.proofs.Choice.{both, clash}
+use Rattle.basics.specs.Choice.{pick, _and_}
+use Rattle.basics.proofs.Choice.{both, clash}
 use Rattle.vio_message.specs.declared.Message.{Message}
 use Rattle.vio_message.specs.declared.Words.{Words}
 use Rattle.vio_message.specs.Words.{InRange, packed}

@@ -10,8 +10,8 @@ use native.Mathlib.Nat.{not-suc-le-zero, eq-or-lt-of-le, le-of-suc-le-suc}
 use lib.ListN.{length}
 use lib.Dec.{leb, ltb, eqb}
 use borrow.Author.Tests.{eqb-true, eq-eqb, ltb-true, lt-ltb, leb-true, leb-false, le-leb, lt-leb, not-true}
-use Rattle.model.specs.Choice.{pick, _and_, _or_, every}
-use Rattle.model.proofs.Choice.{clash, every-at, on-pick, pick-true, pick-false, or-false, each-of}
+use Rattle.basics.specs.Choice.{pick, _and_, _or_, every}
+use Rattle.basics.proofs.Choice.{clash, every-at, on-pick, pick-true, pick-false, or-false, each-of}
 use Rattle.vio_model.specs.Layout.{versionWords, mostVersions}
 use Rattle.vio_model.specs.Versions.{versionLimit, majorAt, minorAt, countOf, holdsIn, holds, minorIn, minorOf, highestIn, highestBelow, versionKeeps, acceptedList}
 

@@ -7,8 +7,8 @@ use Prim.Native.Nat.{ℕ, _≤_, _<_}
 use native.Mathlib.Omega.{arith}
 use lib.ListN.{length}
 use borrow.Author.Tests.{eqb-true, ltb-true, leb-true, eq-eqb, lt-ltb, le-leb}
-use Rattle.model.specs.Choice.{pick, _and_}
-use Rattle.model.proofs.Choice.{each-of, all-of}
+use Rattle.basics.specs.Choice.{pick, _and_}
+use Rattle.basics.proofs.Choice.{each-of, all-of}
 use Rattle.vio_model.specs.declared.Session.{Session}
 use Rattle.vio_model.specs.declared.Session.the-variants.{Nothing, Asked, Agreed, Ended}
 use Rattle.vio_model.specs.Layout.{endWords, endedStage, mostVersions, classOf, acceptsOf, stageOf, versionsHeld, sessionIn, sessionOf, versionsOf, sessionWords, withSession}

@@ -4,7 +4,7 @@ use Prim.Native.Nat.{ℕ}
 use mathlib.Core.List.{List}
 use lib.ListN.{length, set, replicate}
 use lib.Seq.{paste}
-use Rattle.model.specs.Choice.{pick}
+use Rattle.basics.specs.Choice.{pick}
 use Rattle.vio_message.specs.declared.Words.{Words}
 use Rattle.vio_message.specs.Words.{InRange, packed, unpacked}
 use Rattle.vio_model.specs.declared.Ready.{Ready}

@@ -3,7 +3,7 @@
 use Prim.Native.Nat.{ℕ, _+_, min}
 use mathlib.Core.Bool.{Bool}
 use lib.Dec.{leb, ltb, eqb}
-use Rattle.model.specs.Choice.{pick, _and_, _or_}
+use Rattle.basics.specs.Choice.{pick, _and_, _or_}
 use Rattle.vio_message.specs.declared.Message.{Message}
 use Rattle.vio_model.specs.declared.Session.{Session}
 use Rattle.vio_model.specs.declared.Session.the-variants.{Nothing, Asked, Agreed, Ended}

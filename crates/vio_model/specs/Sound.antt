@@ -5,7 +5,7 @@ use mathlib.Core.Bool.{Bool, true}
 use mathlib.Core.List.{List}
 use lib.ListN.{length}
 use lib.Dec.{leb, ltb, eqb}
-use Rattle.model.specs.Choice.{_and_}
+use Rattle.basics.specs.Choice.{_and_}
 use Rattle.vio_model.specs.declared.Session.{Session}
 use Rattle.vio_model.specs.declared.Session.the-variants.{Nothing, Asked, Agreed, Ended}
 use Rattle.vio_model.specs.Layout.{endWords, endedStage, mostVersions, classOf, acceptsOf, stageOf, versionsHeld, sessionOf, versionsOf}

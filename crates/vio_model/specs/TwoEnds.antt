@@ -8,7 +8,7 @@ use mathlib.Core.Bool.{Bool, true, false}
 use mathlib.Core.List.{List, [], _∷_}
 use lib.ListN.{length}
 use lib.Dec.{ltb, eqb}
-use Rattle.model.specs.Choice.{pick, _and_}
+use Rattle.basics.specs.Choice.{pick, _and_}
 use Rattle.vio_message.specs.declared.Words.{Words}
 use Rattle.vio_model.specs.declared.Session.the-variants.{Nothing, Agreed, Ended}
 use Rattle.vio_model.specs.Layout.{classOf, acceptsOf, sessionOf, versionsOf, endOf}

@@ -6,7 +6,7 @@ use mathlib.Core.Bool.{Bool, false, not}
 use mathlib.Core.List.{List}
 use lib.ListN.{length, getD}
 use lib.Dec.{leb, ltb, eqb}
-use Rattle.model.specs.Choice.{pick, _and_, _or_, every}
+use Rattle.basics.specs.Choice.{pick, _and_, _or_, every}
 use Rattle.vio_model.specs.Layout.{versionWords, mostVersions}
 
 -- above every major and minor: "minor 16, major 16" bits

@@ -2,10 +2,10 @@
 // starts with the other, held to what must come of it by a direct definition, the highest major that both hold and
 // the lower of its minors.
 ghost use Prim.Native.Nat.{_≤_};
+use basics::lower;
 use lines::outcome::report_failure;
 use lines::output;
 use lines::output::TEXT_BYTES;
-use model::lower;
 use vio_model::AGREED;
 use vio_model::ENDED;
 use vio_model::End;

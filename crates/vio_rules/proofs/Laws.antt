@@ -8,7 +8,7 @@ use lib.Dec.{eqb}
 use types.Run.{OneOf, miss}
 use denote.Enum.Declared.{tagOf}
 use borrow.Author.Tests.{eq-eqb, ne-eqb}
-use Rattle.model.specs.Choice.{pick}
+use Rattle.basics.specs.Choice.{pick}
 use Rattle.vio_message.specs.declared.Message.{Message}
 use Rattle.vio_model.specs.declared.Session.{Session}
 use Rattle.vio_model.specs.declared.Session.the-variants.{Nothing, Asked, Agreed, Ended}
@@ -17,7 +17,7 @@ use Rattle.vio_model.specs.declared.Effect.the-variants.{Ignored, Becomes, Send
 use Rattle.vio_model.specs.Layout.{classOf, acceptsOf, versionsOf, End, endOf}
 use Rattle.vio_model.specs.Versions.{holds, minorOf, highestBelow}
 use Rattle.vio_model.specs.Rules.{INFO, ACK, NACK, message, asks, asking, acknowledges, tellsLower, refusesClass, requested, answered}
-use Rattle.model.proofs.Loops.{no}
+use Rattle.basics.proofs.Loops.{no}
 use Rattle.vio_model.proofs.Rules.{asks-none, asks-some}
 
 -- the next request of an end that holds the versions l

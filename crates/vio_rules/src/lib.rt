@@ -1,5 +1,5 @@
 // The rules of ticket 10: what a sound end sends, and what each message does.
-use model::lower;
+use basics::lower;
 use vio_message::Message;
 use vio_model::ACCEPTS;
 use vio_model::ACK;
@@ -18,20 +18,10 @@ use vio_versions::versions_of;
 ghost use mathlib.Core.Path.{_≡_};
 ghost use mathlib.Core.Bool.{true};
 ghost use lib.Dec.{eqb, ltb};
-ghost use Rattle.model.specs.Choice.{_and_, _or_};
+ghost use Rattle.basics.specs.Choice.{_and_, _or_};
 ghost use Rattle.vio_model.specs.Layout.{endOf};
 ghost use Rattle.vio_model.specs.Sound.{sound};
-ghost use Rattle.vio_model.specs.Rules.{
-  message,
-  isVersion,
-  asking,
-  requested,
-  acknowledged,
-  refused,
-  answersOpen,
-  answered,
-  heard,
-};
+ghost use Rattle.vio_model.specs.Rules.{message, isVersion, asking, requested, acknowledged, refused, answersOpen, answered, heard};
 
 // A CTRL message of a subtype, with VER_INFO.
 fn message(subtype: u64, id: u64, class: u64, major: u64, minor: u64) -> Message

@@ -8,7 +8,7 @@ use native.Mathlib.Nat.{le-antisymm}
 use native.Mathlib.Numerals.{add-one}
 use lib.Dec.{ltb, eqb}
 use borrow.Author.Tests.{ne-eqb}
-use Rattle.model.specs.Choice.{pick, _or_}
+use Rattle.basics.specs.Choice.{pick, _or_}
 use Rattle.vio_model.specs.Versions.{majorAt, minorAt, holdsIn, minorIn, highestIn}
 use Rattle.vio_model.proofs.Versions.{holds-at}
 

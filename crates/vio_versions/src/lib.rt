@@ -21,17 +21,9 @@ ghost use mathlib.Core.Path.{_≡_};
 ghost use Prim.Native.Nat.{_≤_, _<_, max};
 ghost use lib.ListN.{length};
 ghost use lib.Dec.{ltb, eqb};
-ghost use Rattle.model.specs.Choice.{pick, _and_};
+ghost use Rattle.basics.specs.Choice.{pick, _and_};
 ghost use Rattle.vio_model.specs.Layout.{endWords, mostVersions, versionsHeld, versionsOf, sessionIn, sessionOf};
-ghost use Rattle.vio_model.specs.Versions.{
-  countOf,
-  holdsIn,
-  holds,
-  minorOf,
-  highestBelow,
-  versionKeeps,
-  acceptedList,
-};
+ghost use Rattle.vio_model.specs.Versions.{countOf, holdsIn, holds, minorOf, highestBelow, versionKeeps, acceptedList};
 ghost use Rattle.vio_model.specs.Sound.{idLimit, sessionKeeps, sound};
 
 // The first `n` versions of a list have this major.

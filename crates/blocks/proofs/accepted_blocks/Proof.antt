@@ -2,7 +2,7 @@
 -- Assumes nothing.
 use mathlib.Core.Path.{sym, _∙_}
 use native.Mathlib.Omega.{arith}
-use Rattle.model.proofs.Loops.{refute}
+use Rattle.basics.proofs.Loops.{refute}
 use Rattle.blocks.proofs.Rules.{accepted-rules, accepted-last, blocks-last}
 use Rattle.blocks.proofs.accepted_blocks.Statement.{statement}
 use Rattle.blocks.proofs.accepted_blocks.Tie as tie

@@ -3,7 +3,7 @@
 use mathlib.Core.Path.{sym, _∙_}
 use native.Mathlib.Omega.{arith}
 use Rattle.model.proofs.Rules.{block-rules}
-use Rattle.model.proofs.Loops.{refute}
+use Rattle.basics.proofs.Loops.{refute}
 use Rattle.blocks.proofs.Rules.{lies-last}
 use Rattle.blocks.proofs.block_keeps.Statement.{statement}
 use Rattle.blocks.proofs.block_keeps.Tie as tie

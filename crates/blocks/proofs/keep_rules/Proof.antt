@@ -7,9 +7,9 @@ use native.Mathlib.Numerals.{add-one}
 use native.Mathlib.Omega.{arith}
 use Rattle.model.proofs.Rules.{block-rules}
 use Rattle.model.specs.Blocks.{blockKeeps, endBefore}
-use Rattle.model.specs.Choice.{every}
+use Rattle.basics.specs.Choice.{every}
 use Rattle.model.specs.Layout.{blockIn}
-use Rattle.model.proofs.Loops.{no, yes, every-none, every-more, every-fails, every-all}
+use Rattle.basics.proofs.Loops.{no, yes, every-none, every-more, every-fails, every-all}
 use Rattle.blocks.proofs.keep_rules.Statement.{statement}
 use Rattle.blocks.proofs.keep_rules.Tie as tie
 

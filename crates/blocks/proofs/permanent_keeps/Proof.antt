@@ -3,8 +3,8 @@
 use mathlib.Core.Path.{sym, _∙_}
 use native.Mathlib.Omega.{arith}
 use borrow.Author.Tests.{eq-eqb, ne-eqb}
-use Rattle.model.specs.Choice.{pick}
-use Rattle.model.proofs.Loops.{refute}
+use Rattle.basics.specs.Choice.{pick}
+use Rattle.basics.proofs.Loops.{refute}
 use Rattle.blocks.proofs.Rules.{permanent-rules, permanent-last}
 use Rattle.blocks.proofs.permanent_keeps.Statement.{statement}
 use Rattle.blocks.proofs.permanent_keeps.Tie as tie

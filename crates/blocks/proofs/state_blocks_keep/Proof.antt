@@ -2,7 +2,7 @@
 -- Assumes nothing.
 use mathlib.Core.Path.{sym, _∙_}
 use native.Mathlib.Omega.{arith}
-use Rattle.model.proofs.Loops.{refute}
+use Rattle.basics.proofs.Loops.{refute}
 use Rattle.blocks.proofs.Rules.{blocks-rules, blocks-last}
 use Rattle.blocks.proofs.state_blocks_keep.Statement.{statement}
 use Rattle.blocks.proofs.state_blocks_keep.Tie as tie

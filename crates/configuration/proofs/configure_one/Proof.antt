@@ -1,5 +1,5 @@
 use mathlib.Core.Path.{sym, _∙_}
-use Rattle.model.specs.declared.Found.the-variants.{At, Nowhere}
+use Rattle.basics.specs.declared.Found.the-variants.{At, Nowhere}
 use Rattle.model.proofs.Sounds.{named-less}
 use Rattle.configuration.proofs.Laws.{unknown-at, failed-one, found-one}
 use borrow.Author.Needs.{needs}

@@ -2,7 +2,7 @@
 -- Assumes nothing.
 use mathlib.Core.Path.{sym, _∙_}
 use native.Mathlib.Omega.{arith}
-use Rattle.model.proofs.Loops.{refute}
+use Rattle.basics.proofs.Loops.{refute}
 use Rattle.device_list.proofs.Names.{accepted-rules, accepted-last}
 use Rattle.device_list.proofs.accepted_devices.Statement.{statement}
 use Rattle.device_list.proofs.accepted_devices.Tie as tie

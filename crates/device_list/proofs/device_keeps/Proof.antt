@@ -2,7 +2,7 @@
 -- Assumes nothing.
 use mathlib.Core.Path.{sym, _∙_}
 use Rattle.model.specs.Layout.{deviceIn}
-use Rattle.model.proofs.Loops.{refute}
+use Rattle.basics.proofs.Loops.{refute}
 use Rattle.device_list.proofs.Names.{name-held, device-rules, device-last}
 use native.Mathlib.Omega.{arith}
 use Rattle.device_list.proofs.device_keeps.Statement.{statement}

@@ -7,7 +7,7 @@ use native.Mathlib.Numerals.{add-one}
 use native.Mathlib.Omega.{arith}
 use lib.ListN.{getD}
 use lib.Dec.{eqb}
-use Rattle.model.specs.Choice.{every}
+use Rattle.basics.specs.Choice.{every}
 use Rattle.model.specs.Layout.{deviceIn, deviceWords}
 use Rattle.names.proofs.Bytes.{both-pass}
 use Rattle.device_list.proofs.id_apart.Statement.{statement}

@@ -5,7 +5,7 @@ use Prim.Native.Nat.{_+_, _*_, _≤_, _-_}
 use native.Mathlib.Omega.{arith}
 use lib.ListN.{getD}
 use lib.Dec.{ltb}
-use Rattle.model.specs.Choice.{every}
+use Rattle.basics.specs.Choice.{every}
 use Rattle.model.specs.Layout.{deviceWords}
 use Rattle.device_list.specs.Rising.{idsRise}
 use Rattle.names.proofs.Bytes.{both-pass}

@@ -1,8 +1,8 @@
 -- `device_list::keep_rules` meets its contract: a device that breaks its rules decides, and past them the devices must be apart.
 -- Assumes nothing.
 use mathlib.Core.Path.{sym, _∙_}
-use Rattle.model.proofs.Choice.{clash}
-use Rattle.model.proofs.Loops.{refute, no, yes}
+use Rattle.basics.proofs.Choice.{clash}
+use Rattle.basics.proofs.Loops.{refute, no, yes}
 use Rattle.device_list.proofs.Names.{devices-each, devices-last}
 use borrow.Author.Needs.{needs}
 use Rattle.device_list.proofs.keep_rules.Statement.{statement}

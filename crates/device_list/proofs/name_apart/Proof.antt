@@ -4,10 +4,10 @@ use mathlib.Core.Bool.{true, not}
 use mathlib.Core.Path.{_≡_, sym, ap, _∙_}
 use Prim.Native.Nat.{_≤_, _-_}
 use native.Mathlib.Omega.{arith}
-use Rattle.model.specs.Choice.{every}
+use Rattle.basics.specs.Choice.{every}
 use Rattle.model.specs.Devices.{deviceApart, isDevice}
 use Rattle.model.specs.Layout.{deviceIn}
-use Rattle.model.proofs.Loops.{every-none, every-more, every-fails, every-all}
+use Rattle.basics.proofs.Loops.{every-none, every-more, every-fails, every-all}
 use Rattle.device_list.proofs.Names.{keeps-name}
 use Rattle.device_list.proofs.name_apart.Statement.{statement}
 use Rattle.device_list.proofs.name_apart.Tie as tie

@@ -4,7 +4,7 @@ use mathlib.Core.Path.{sym, _∙_}
 use Prim.Native.Nat.{_≤_, _-_}
 use Rattle.model.specs.Devices.{isDevice, namedDevice}
 use Rattle.model.specs.Layout.{deviceIn, firstDeviceWord}
-use Rattle.model.proofs.Loops.{NoneBelow, none-first, none-more, found-here, found-nowhere}
+use Rattle.basics.proofs.Loops.{NoneBelow, none-first, none-more, found-here, found-nowhere}
 use Rattle.device_list.proofs.Names.{devices-few, devices-each, keeps-name}
 use native.Mathlib.Omega.{arith}
 use Rattle.device_list.proofs.named_device.Statement.{statement}

@@ -1,6 +1,6 @@
 -- `device_list::state_devices_keep` meets its contract: past the count the devices decide.
 -- Assumes nothing.
-use Rattle.model.proofs.Loops.{refute}
+use Rattle.basics.proofs.Loops.{refute}
 use Rattle.device_list.proofs.Names.{devices-few}
 use native.Mathlib.Omega.{arith}
 use borrow.Author.Needs.{needs}

@@ -8,7 +8,7 @@ use lib.ListN.{length, length-drop}
 use lib.Seq.{take-all}
 use Rattle.model.specs.Layout.{deviceHeaderBytes}
 use Rattle.model.specs.DeviceRequests.{deviceName, hasName, operationOf}
-use Rattle.model.proofs.Loops.{no, yes}
+use Rattle.basics.proofs.Loops.{no, yes}
 use Rattle.devices.proofs.Laws.{name-long, no-name, no-type, formed}
 use native.Mathlib.Omega.{arith}
 use borrow.Author.Needs.{needs}

@@ -2,7 +2,7 @@
 -- Assumes nothing.
 use mathlib.Core.Path.{sym}
 use borrow.Author.Tests.{eq-eqb, ne-eqb, not-true, not-false}
-use Rattle.model.proofs.Choice.{and-false, and-false-right, join, pick-true, pick-false}
+use Rattle.basics.proofs.Choice.{and-false, and-false-right, join, pick-true, pick-false}
 use Rattle.devices.proofs.configured_after.Statement.{statement}
 use Rattle.devices.proofs.configured_after.Tie as tie
 

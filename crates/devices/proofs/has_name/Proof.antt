@@ -5,7 +5,7 @@ use Prim.Native.Nat.{_-_}
 use lib.ListN.{length, getD}
 use Rattle.wire.specs.BigEndian.{byteAt}
 use Rattle.wire.proofs.Laws.{byte-at}
-use Rattle.model.proofs.Loops.{refute}
+use Rattle.basics.proofs.Loops.{refute}
 use Rattle.devices.proofs.Laws.{name-long, name-ends, name-last}
 use native.Mathlib.Omega.{arith}
 use borrow.Author.Needs.{needs}

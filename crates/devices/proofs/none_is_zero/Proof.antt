@@ -9,7 +9,7 @@ use lib.ListN.{getD}
 use lib.Dec.{eqb}
 use Rattle.wire.specs.BigEndian.{byteAt}
 use Rattle.wire.proofs.Laws.{byte-at}
-use Rattle.model.specs.Choice.{every}
+use Rattle.basics.specs.Choice.{every}
 use Rattle.names.proofs.Bytes.{both-pass}
 use Rattle.devices.proofs.none_is_zero.Statement.{statement}
 use Rattle.devices.proofs.none_is_zero.Tie as tie

@@ -3,7 +3,7 @@
 use mathlib.Core.Path.{sym, _∙_}
 use borrow.Author.Tests.{lt-ltb, le-ltb}
 use Rattle.model.specs.DeviceRequests.{deviceNumber}
-use Rattle.model.proofs.Choice.{pick-true, pick-false}
+use Rattle.basics.proofs.Choice.{pick-true, pick-false}
 use borrow.Author.Needs.{needs}
 use Rattle.devices.proofs.number.Statement.{statement}
 use Rattle.devices.proofs.number.Tie as tie

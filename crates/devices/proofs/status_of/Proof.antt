@@ -3,7 +3,7 @@
 use mathlib.Core.Path.{sym}
 use borrow.Author.Tests.{eq-eqb, ne-eqb}
 use Rattle.model.specs.DeviceRequests.{deviceStatus}
-use Rattle.model.proofs.Choice.{pick-true, pick-false}
+use Rattle.basics.proofs.Choice.{pick-true, pick-false}
 use Rattle.devices.proofs.status_of.Statement.{statement}
 use Rattle.devices.proofs.status_of.Tie as tie
 

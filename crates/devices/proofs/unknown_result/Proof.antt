@@ -1,7 +1,7 @@
 -- `devices::unknown_result` meets its contract: the cases of the definition.
 -- Assumes nothing.
 use mathlib.Core.Path.{sym}
-use Rattle.model.proofs.Choice.{pick-true, pick-false}
+use Rattle.basics.proofs.Choice.{pick-true, pick-false}
 use Rattle.devices.proofs.unknown_result.Statement.{statement}
 use Rattle.devices.proofs.unknown_result.Tie as tie
 

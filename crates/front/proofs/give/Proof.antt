@@ -1,7 +1,7 @@
 -- `front::give` meets its contract: the agent's answer, and the words if it does not refuse.
 -- Assumes nothing.
 use mathlib.Core.Path.{sym, _∙_}
-use Rattle.model.proofs.Choice.{pick-true, pick-false}
+use Rattle.basics.proofs.Choice.{pick-true, pick-false}
 use borrow.Author.Tests.{eq-eqb, ne-eqb}
 use borrow.Author.Needs.{needs}
 use Rattle.front.proofs.give.Statement.{statement}

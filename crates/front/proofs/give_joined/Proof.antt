@@ -8,7 +8,7 @@ use lib.ListN.{length, take, drop}
 use lib.Seq.{length-sets, length-take-le}
 use borrow.Author.Needs.{needs}
 use borrow.Author.Tests.{eq-eqb}
-use Rattle.model.proofs.Choice.{pick-true}
+use Rattle.basics.proofs.Choice.{pick-true}
 use Rattle.front_model.specs.Front.{Front, keptAt, mostMessage}
 use Rattle.front.proofs.Pieces.{answer-none, give-refused, gives-by, kept-length, message-joined}
 use Rattle.front.proofs.give_joined.Statement.{statement}

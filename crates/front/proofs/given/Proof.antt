@@ -1,7 +1,7 @@
 -- `front::given` meets its contract: by the agent's refusal.
 -- Assumes nothing.
 use borrow.Author.Tests.{eq-eqb, ne-eqb}
-use Rattle.model.specs.Choice.{pick}
+use Rattle.basics.specs.Choice.{pick}
 use borrow.Author.Needs.{needs}
 use Rattle.front.proofs.given.Statement.{statement}
 use Rattle.front.proofs.given.Tie as tie

@@ -1,7 +1,7 @@
 -- `front::is_unfinished` meets its contract: the tests of the definition, in its order.
 -- Assumes nothing.
 use borrow.Author.Tests.{lt-ltb, le-ltb, le-leb, lt-leb}
-use Rattle.model.specs.Choice.{_and_, _or_}
+use Rattle.basics.specs.Choice.{_and_, _or_}
 use Rattle.front_model.specs.Front.{unfinished}
 use borrow.Author.Needs.{needs}
 use Rattle.front.proofs.is_unfinished.Statement.{statement}

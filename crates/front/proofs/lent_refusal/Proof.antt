@@ -1,9 +1,9 @@
 -- `front::lent_refusal` meets its contract: the rows of the definition, in its order.
 -- Assumes nothing.
 use borrow.Author.Tests.{eq-eqb, ne-eqb, lt-ltb, le-ltb, not-true, not-false}
-use Rattle.model.specs.Choice.{pick}
+use Rattle.basics.specs.Choice.{pick}
 use Rattle.model.specs.Refusals.{refusalIn}
-use Rattle.model.proofs.Loops.{no, yes}
+use Rattle.basics.proofs.Loops.{no, yes}
 use Rattle.front.specs.Refusals.{lentRefusal}
 use borrow.Author.Needs.{needs}
 use Rattle.front.proofs.lent_refusal.Statement.{statement}

@@ -2,7 +2,7 @@
 -- Assumes nothing.
 use mathlib.Core.Bool.{true, false}
 use mathlib.Core.Path.{refl}
-use Rattle.model.proofs.Choice.{clash}
+use Rattle.basics.proofs.Choice.{clash}
 use borrow.Author.Tests.{leb-true, leb-false}
 use Rattle.front.proofs.Joined.{keeps-few, keeps-more, gives-long, gives-whole}
 use borrow.Author.Needs.{needs}

@@ -2,7 +2,7 @@
 -- Assumes nothing.
 use mathlib.Core.Path.{sym, _∙_}
 use borrow.Author.Needs.{needs}
-use Rattle.model.proofs.Loops.{no, yes}
+use Rattle.basics.proofs.Loops.{no, yes}
 use Rattle.front.specs.Changes.{Fronts}
 use Rattle.front.proofs.Pieces.{piece-outside, piece-unsound}
 use Rattle.front.proofs.piece.Statement.{statement}

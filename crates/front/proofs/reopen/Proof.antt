@@ -2,7 +2,7 @@
 -- Assumes nothing.
 use native.Mathlib.Omega.{arith}
 use mathlib.Core.Path.{_≡_, refl, sym, _∙_}
-use Rattle.model.proofs.Loops.{no, yes}
+use Rattle.basics.proofs.Loops.{no, yes}
 use Rattle.front.specs.Changes.{Fronts}
 use Rattle.front.specs.Refusals.{openingRefusal}
 use Rattle.front.proofs.Reopens.{reopen-unsound, reopen-refused, reopen-done, opening-within}

@@ -1,9 +1,9 @@
 -- `front::reopen_refusal` meets its contract: the rows of the definition, in its order.
 -- Assumes nothing.
 use borrow.Author.Tests.{lt-ltb, le-ltb}
-use Rattle.model.specs.Choice.{pick}
+use Rattle.basics.specs.Choice.{pick}
 use Rattle.model.specs.Refusals.{refusalIn}
-use Rattle.model.proofs.Loops.{no, yes}
+use Rattle.basics.proofs.Loops.{no, yes}
 use Rattle.front.specs.Refusals.{openingRefusal}
 use borrow.Author.Needs.{needs}
 use Rattle.front.proofs.reopen_refusal.Statement.{statement}

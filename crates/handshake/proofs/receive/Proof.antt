@@ -7,7 +7,7 @@ use Rattle.vio_model.specs.Layout.{endOf}
 use Rattle.vio_model.specs.Rules.{heard}
 use Rattle.vio_model.specs.Calls.{Fits, silent}
 use Rattle.handshake.proofs.Laws.{receive-refused, receive-accepted}
-use Rattle.model.proofs.Loops.{yes}
+use Rattle.basics.proofs.Loops.{yes}
 use Rattle.vio_model.proofs.Words.{sound-facts}
 use Rattle.vio_model.proofs.Kept.{receive-fits}
 use Rattle.handshake.proofs.receive.Statement.{statement}

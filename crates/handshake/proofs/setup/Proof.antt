@@ -2,8 +2,8 @@
 -- Assumes nothing.
 use native.Mathlib.Omega.{arith}
 use borrow.Author.Needs.{needs}
-use Rattle.model.specs.Choice.{pick}
-use Rattle.model.proofs.Loops.{no, yes}
+use Rattle.basics.specs.Choice.{pick}
+use Rattle.basics.proofs.Loops.{no, yes}
 use Rattle.vio_model.specs.Calls.{ready}
 use Rattle.vio_model.proofs.Versions.{list-rules}
 use Rattle.handshake.proofs.setup.Statement.{statement}

@@ -4,7 +4,7 @@ use mathlib.Core.Path.{sym, subst}
 use borrow.Author.Needs.{needs}
 use Rattle.vio_model.specs.Calls.{Fits, silent}
 use Rattle.handshake.proofs.Laws.{start-refused, start-accepted}
-use Rattle.model.proofs.Loops.{yes}
+use Rattle.basics.proofs.Loops.{yes}
 use Rattle.vio_model.proofs.Words.{sound-facts}
 use Rattle.vio_model.proofs.Kept.{start-fits}
 use Rattle.handshake.proofs.start.Statement.{statement}

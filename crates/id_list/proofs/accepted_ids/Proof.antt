@@ -2,7 +2,7 @@
 -- Assumes nothing.
 use mathlib.Core.Path.{sym, _∙_}
 use native.Mathlib.Omega.{arith}
-use Rattle.model.proofs.Loops.{refute}
+use Rattle.basics.proofs.Loops.{refute}
 use Rattle.id_list.proofs.Ids.{accepted-rules, accepted-last}
 use borrow.Author.Needs.{needs}
 use Rattle.id_list.proofs.accepted_ids.Statement.{statement}

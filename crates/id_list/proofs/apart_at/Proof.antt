@@ -7,7 +7,7 @@ use Prim.Native.Nat.{_+_, _≤_, _-_}
 use native.Mathlib.Numerals.{add-one}
 use lib.ListN.{getD}
 use lib.Dec.{eqb}
-use Rattle.model.specs.Choice.{every}
+use Rattle.basics.specs.Choice.{every}
 use Rattle.model.specs.Layout.{mostIds}
 use Rattle.names.proofs.Bytes.{both-pass}
 use Rattle.id_list.specs.Hashes.{apartAt}

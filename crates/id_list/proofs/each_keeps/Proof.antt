@@ -5,11 +5,11 @@ use mathlib.Core.Path.{_≡_, refl, ap, _∙_}
 use Prim.Native.Nat.{_*_, _<_, _≤_, _-_}
 use native.Mathlib.Omega.{arith}
 use lib.ListN.{length}
-use Rattle.model.specs.Choice.{every}
+use Rattle.basics.specs.Choice.{every}
 use Rattle.model.specs.Layout.{mostIds}
 use Rattle.model.specs.Peers.{idKeeps}
-use Rattle.model.proofs.Choice.{clash}
-use Rattle.model.proofs.Loops.{no, yes, every-none, every-more, every-fails, every-all}
+use Rattle.basics.proofs.Choice.{clash}
+use Rattle.basics.proofs.Loops.{no, yes, every-none, every-more, every-fails, every-all}
 use Rattle.id_list.specs.Hashes.{HashesStand, folded}
 use Rattle.id_list.proofs.Hashes.{hashed-more, none-hashed, still-long}
 use Rattle.id_list.proofs.each_keeps.Statement.{statement}

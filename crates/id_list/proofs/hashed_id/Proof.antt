@@ -2,8 +2,8 @@
 -- Assumes nothing.
 use mathlib.Core.Path.{refl, _∙_}
 use Rattle.model.specs.Layout.{idIn}
-use Rattle.model.proofs.Choice.{clash}
-use Rattle.model.proofs.Loops.{refute}
+use Rattle.basics.proofs.Choice.{clash}
+use Rattle.basics.proofs.Loops.{refute}
 use Rattle.id_list.proofs.Ids.{id-rules, id-last}
 use native.Mathlib.Omega.{arith}
 use Rattle.id_list.proofs.hashed_id.Statement.{statement}

@@ -4,7 +4,7 @@ use native.Mathlib.Omega.{arith}
 use mathlib.Core.Path.{_≡_, refl, _∙_}
 use Prim.Native.Nat.{_+_, _/_, _≤_, _-_}
 use native.Mathlib.Numerals.{add-one}
-use Rattle.model.specs.Choice.{every}
+use Rattle.basics.specs.Choice.{every}
 use Rattle.model.specs.Layout.{mostIds}
 use Rattle.names.proofs.Bytes.{both-pass}
 use Rattle.id_list.specs.Hashes.{apartAt, hashesApart}

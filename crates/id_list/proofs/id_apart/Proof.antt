@@ -3,11 +3,11 @@
 use mathlib.Core.Bool.{true, not}
 use mathlib.Core.Path.{_≡_, sym, ap, _∙_}
 use Prim.Native.Nat.{ℕ, _≤_, _-_}
-use Rattle.model.specs.Choice.{every}
+use Rattle.basics.specs.Choice.{every}
 use Rattle.model.specs.Devices.{sameName}
 use Rattle.model.specs.Layout.{idIn}
 use Rattle.model.specs.Peers.{idApart}
-use Rattle.model.proofs.Loops.{every-none, every-more, every-fails, every-all}
+use Rattle.basics.proofs.Loops.{every-none, every-more, every-fails, every-all}
 use Rattle.id_list.proofs.Ids.{BytesRules, bytes-rules, id-at, id-rules, pair-same}
 use native.Mathlib.Omega.{arith}
 use Rattle.id_list.proofs.id_apart.Statement.{statement}

@@ -3,10 +3,10 @@
 use mathlib.Core.Bool.{true}
 use mathlib.Core.Path.{_≡_, sym, _∙_}
 use native.Mathlib.Omega.{arith}
-use Rattle.model.specs.Choice.{every}
+use Rattle.basics.specs.Choice.{every}
 use Rattle.model.specs.Peers.{idKeeps}
-use Rattle.model.proofs.Choice.{clash}
-use Rattle.model.proofs.Loops.{refute, no, yes}
+use Rattle.basics.proofs.Choice.{clash}
+use Rattle.basics.proofs.Loops.{refute, no, yes}
 use Rattle.id_list.proofs.Ids.{ids-rules, ids-last}
 use Rattle.id_list.proofs.Hashes.{hashes-decide}
 use borrow.Author.Needs.{needs}

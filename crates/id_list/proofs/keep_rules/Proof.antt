@@ -2,7 +2,7 @@
 -- Assumes nothing.
 use mathlib.Core.Path.{sym}
 use native.Mathlib.Omega.{arith}
-use Rattle.model.proofs.Loops.{refute}
+use Rattle.basics.proofs.Loops.{refute}
 use Rattle.id_list.proofs.Ids.{ids-rules, ids-none}
 use borrow.Author.Needs.{needs}
 use Rattle.id_list.proofs.keep_rules.Statement.{statement}

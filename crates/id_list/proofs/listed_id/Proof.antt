@@ -5,7 +5,7 @@ use Prim.Native.Nat.{_≤_, _-_}
 use Rattle.model.specs.Devices.{sameName}
 use Rattle.model.specs.Layout.{firstIdWord, idIn, idsOf}
 use Rattle.model.specs.Peers.{listedId}
-use Rattle.model.proofs.Loops.{NoneBelow, none-first, none-more, found-here, found-nowhere}
+use Rattle.basics.proofs.Loops.{NoneBelow, none-first, none-more, found-here, found-nowhere}
 use Rattle.id_list.proofs.Ids.{BytesRules, IdsRules, bytes-rules, id-at, id-same, ids-rules}
 use native.Mathlib.Omega.{arith}
 use Rattle.id_list.proofs.listed_id.Statement.{statement}

@@ -1,7 +1,7 @@
 -- `memory::answer` meets its contract: ERROR for the form, or for a number that does not rise; else the request, on the state that has its number.
 -- Assumes nothing.
 use native.Mathlib.Omega.{arith}
-use Rattle.model.proofs.Loops.{no, yes}
+use Rattle.basics.proofs.Loops.{no, yes}
 use Rattle.model.proofs.Sounds.{sound-numbers}
 use Rattle.memory.proofs.Laws.{form-error, number-error, number-risen}
 use borrow.Author.Needs.{needs}

@@ -1,4 +1,4 @@
-use Rattle.model.proofs.Loops.{no, yes}
+use Rattle.basics.proofs.Loops.{no, yes}
 use Rattle.model.proofs.Rules.{sound-facts}
 use Rattle.removal_state.proofs.Laws.{cancelled-is}
 use Rattle.memory.proofs.Laws.{cancel-idle, cancel-again, cancel-marks}

@@ -1,5 +1,5 @@
 use mathlib.Core.Path.{sym, _∙_}
-use Rattle.model.specs.Choice.{pick}
+use Rattle.basics.specs.Choice.{pick}
 use Rattle.model.specs.Memory.{requested}
 use Rattle.model.proofs.Handlers.{silent-handles}
 use borrow.Author.Needs.{needs}

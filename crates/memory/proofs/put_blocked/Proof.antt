@@ -4,7 +4,7 @@ use native.Mathlib.Omega.{arith}
 use Prim.Native.Nat.{_≤_, _-_}
 use lib.ListN.{length}
 use lib.Seq.{sets}
-use Rattle.model.specs.Choice.{joined}
+use Rattle.basics.specs.Choice.{joined}
 use Rattle.model.specs.Layout.{replyHeaderBytes}
 use Rattle.model.specs.Memory.{DR-MEM-RES-BLOCKED, addrIn, resultRecord, sizeIn}
 use Rattle.model.proofs.Replies.{result-length}

@@ -1,6 +1,6 @@
 use native.Mathlib.Omega.{arith}
 use lib.ListN.{length-take, length-drop}
-use Rattle.model.proofs.Loops.{no, yes}
+use Rattle.basics.proofs.Loops.{no, yes}
 use Rattle.model.proofs.Replies.{status-length}
 use Rattle.model.specs.Layout.{removalOf, replyHeaderBytes, statusBytes}
 use Rattle.model.specs.Memory.{statusRecord}

@@ -4,7 +4,7 @@ use mathlib.Core.Path.{sym, _∙_}
 use native.Mathlib.Omega.{arith}
 use borrow.Author.Tests.{ne-eqb}
 use borrow.Author.Needs.{needs}
-use Rattle.model.specs.Choice.{pick}
+use Rattle.basics.specs.Choice.{pick}
 use Rattle.model.specs.Messages.{decodedByType}
 use Rattle.messages.proofs.Rules.{well-rules, init-payload, ack-payload, handle-payload}
 use Rattle.messages.proofs.by_type.Statement.{statement}

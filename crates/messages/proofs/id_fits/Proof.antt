@@ -4,8 +4,8 @@ use mathlib.Core.Path.{sym, _∙_}
 use Prim.Native.Nat.{_+_}
 use native.Mathlib.Omega.{arith}
 use borrow.Author.Needs.{needs}
-use Rattle.model.proofs.Choice.{clash}
-use Rattle.model.proofs.Loops.{refute}
+use Rattle.basics.proofs.Choice.{clash}
+use Rattle.basics.proofs.Loops.{refute}
 use Rattle.messages.proofs.Rules.{zero-byte, other-byte, whole-rules, id-rules, id-last}
 use Rattle.messages.proofs.id_fits.Statement.{statement}
 use Rattle.messages.proofs.id_fits.Tie as tie

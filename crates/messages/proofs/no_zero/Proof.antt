@@ -5,9 +5,9 @@ use mathlib.Core.Bool.{true, not}
 use Prim.Native.Nat.{ℕ, _+_, _-_, _≤_, _<_}
 use native.Mathlib.Omega.{arith}
 use borrow.Author.Count.{below-none, below-more}
-use Rattle.model.proofs.Choice.{clash, every-at, every-make}
+use Rattle.basics.proofs.Choice.{clash, every-at, every-make}
 use Rattle.messages.specs.Id.{idByte}
-use Rattle.model.proofs.Loops.{refute}
+use Rattle.basics.proofs.Loops.{refute}
 use Rattle.messages.proofs.Rules.{zero-byte, other-byte}
 use Rattle.messages.proofs.no_zero.Statement.{statement}
 use Rattle.messages.proofs.no_zero.Tie as tie

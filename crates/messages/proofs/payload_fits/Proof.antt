@@ -3,7 +3,7 @@
 use mathlib.Core.Path.{sym, _∙_}
 use native.Mathlib.Omega.{arith}
 use borrow.Author.Needs.{needs}
-use Rattle.model.specs.Choice.{pick}
+use Rattle.basics.specs.Choice.{pick}
 use Rattle.model.specs.Messages.{payloadFits}
 use Rattle.messages.proofs.Rules.{whole-rules, unreg-fits, no-type}
 use Rattle.messages.proofs.payload_fits.Statement.{statement}

@@ -3,7 +3,7 @@
 use mathlib.Core.Path.{sym}
 use native.Mathlib.Omega.{arith}
 use borrow.Author.Needs.{needs}
-use Rattle.model.proofs.Loops.{refute}
+use Rattle.basics.proofs.Loops.{refute}
 use Rattle.messages.proofs.Rules.{whole-rules, whole-last}
 use Rattle.messages.proofs.whole_message.Statement.{statement}
 use Rattle.messages.proofs.whole_message.Tie as tie

@@ -6,9 +6,9 @@ use Prim.Native.Nat.{_+_, _*_, _≤_, _-_}
 use lib.ListN.{getD}
 use Rattle.wire.specs.BigEndian.{numberAt}
 use Rattle.wire.proofs.Laws.{number-bound}
-use Rattle.model.specs.Choice.{every}
+use Rattle.basics.specs.Choice.{every}
 use Rattle.model.specs.Layout.{wordBytes}
-use Rattle.model.proofs.Loops.{every-none, every-more, every-fails, every-all}
+use Rattle.basics.proofs.Loops.{every-none, every-more, every-fails, every-all}
 use Rattle.names.specs.NameWords.{sameBytes}
 use Rattle.names.proofs.Bytes.{words-same, words-differ}
 use native.Mathlib.Omega.{arith}

@@ -5,8 +5,8 @@ use mathlib.Core.Path.{refl, sym, _∙_}
 use Prim.Native.Nat.{_≤_}
 use native.Mathlib.Numerals.{add-one}
 use borrow.Author.Tests.{eq-eqb, ne-eqb}
-use Rattle.model.proofs.Choice.{and-false, clash}
-use Rattle.model.proofs.Loops.{refute}
+use Rattle.basics.proofs.Choice.{and-false, clash}
+use Rattle.basics.proofs.Loops.{refute}
 use Rattle.names.specs.Hashes.{hashOf, mixedWords}
 use Rattle.names.proofs.Bytes.{and-next}
 use Rattle.names.proofs.Names.{name-rules, name-words}

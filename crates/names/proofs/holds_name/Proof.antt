@@ -1,8 +1,8 @@
 -- `names::holds_name` meets its contract: a length out of bounds breaks the rules, and past it the words decide.
 -- Assumes nothing.
 use mathlib.Core.Path.{sym, _∙_}
-use Rattle.model.proofs.Choice.{and-false}
-use Rattle.model.proofs.Loops.{refute, no, yes}
+use Rattle.basics.proofs.Choice.{and-false}
+use Rattle.basics.proofs.Loops.{refute, no, yes}
 use Rattle.names.proofs.Bytes.{and-next}
 use Rattle.names.proofs.Names.{name-rules, name-words}
 use native.Mathlib.Omega.{arith}

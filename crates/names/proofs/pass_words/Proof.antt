@@ -6,7 +6,7 @@ use Prim.Native.Nat.{_+_, _≤_, _-_}
 use native.Mathlib.Numerals.{add-one}
 use lib.ListN.{getD}
 use lib.Dec.{eqb}
-use Rattle.model.specs.Choice.{every}
+use Rattle.basics.specs.Choice.{every}
 use Rattle.names.specs.NameWords.{wholeWord}
 use Rattle.names.specs.Hashes.{mixedWords}
 use Rattle.names.proofs.Zeros.{or-none}

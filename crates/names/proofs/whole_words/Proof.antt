@@ -6,7 +6,7 @@ use native.Mathlib.Numerals.{add-one}
 use native.Mathlib.Omega.{arith}
 use lib.ListN.{getD}
 use lib.Dec.{eqb}
-use Rattle.model.specs.Choice.{every}
+use Rattle.basics.specs.Choice.{every}
 use Rattle.names.specs.NameWords.{wholeWord}
 use Rattle.names.proofs.Zeros.{or-none}
 use Rattle.names.proofs.whole_words.Statement.{statement}

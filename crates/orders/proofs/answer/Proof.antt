@@ -1,5 +1,5 @@
 use mathlib.Core.Path.{sym, _∙_}
-use Rattle.model.proofs.Loops.{no, yes}
+use Rattle.basics.proofs.Loops.{no, yes}
 use Rattle.orders.proofs.Laws.{wrong-length, denied, pending, left}
 use borrow.Author.Needs.{needs}
 use Rattle.orders.proofs.answer.Statement.{statement}

@@ -1,5 +1,5 @@
 use borrow.Author.Tests.{eq-eqb, ne-eqb}
-use Rattle.model.specs.Choice.{pick}
+use Rattle.basics.specs.Choice.{pick}
 use Rattle.model.specs.Orders.{orderBytes}
 use Rattle.orders.proofs.bytes_of.Statement.{statement}
 use Rattle.orders.proofs.bytes_of.Tie as tie

@@ -1,5 +1,5 @@
 use borrow.Author.Tests.{lt-ltb, le-ltb}
-use Rattle.model.specs.Choice.{pick}
+use Rattle.basics.specs.Choice.{pick}
 use Rattle.model.specs.Orders.{orderNumber}
 use borrow.Author.Needs.{needs}
 use Rattle.orders.proofs.number_of.Statement.{statement}

@@ -2,7 +2,7 @@
 -- Assumes nothing.
 use mathlib.Core.Path.{sym}
 use borrow.Author.Tests.{ne-eqb, eq-eqb}
-use Rattle.model.proofs.Choice.{or-none, or-true}
+use Rattle.basics.proofs.Choice.{or-none, or-true}
 use borrow.Author.Needs.{needs}
 use Rattle.peers.proofs.differs.Statement.{statement}
 use Rattle.peers.proofs.differs.Tie as tie

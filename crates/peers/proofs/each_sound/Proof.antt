@@ -4,10 +4,10 @@ use native.Mathlib.Omega.{arith}
 use mathlib.Core.Bool.{true}
 use mathlib.Core.Path.{_≡_}
 use Prim.Native.Nat.{_≤_, _-_}
-use Rattle.model.specs.Choice.{every}
+use Rattle.basics.specs.Choice.{every}
 use Rattle.model.specs.Layout.{mostIds, readyAt}
 use Rattle.model.specs.Peers.{peerSound}
-use Rattle.model.proofs.Loops.{no, yes, every-none, every-more, every-fails, every-all}
+use Rattle.basics.proofs.Loops.{no, yes, every-none, every-more, every-fails, every-all}
 use Rattle.peers.proofs.each_sound.Statement.{statement}
 use Rattle.peers.proofs.each_sound.Tie as tie
 

@@ -5,7 +5,7 @@ use mathlib.Core.Path.{sym, _∙_}
 use Prim.Native.Nat.{_≤_, _-_}
 use Rattle.model.specs.Peers.{peeredAs}
 use Rattle.model.specs.Layout.{mostIds}
-use Rattle.model.proofs.Loops.{NoneBelow, none-first, none-more, found-here, found-nowhere}
+use Rattle.basics.proofs.Loops.{NoneBelow, none-first, none-more, found-here, found-nowhere}
 use Rattle.peers.proofs.find_peer.Statement.{statement}
 use Rattle.peers.proofs.find_peer.Tie as tie
 

@@ -6,10 +6,10 @@ use mathlib.Core.Path.{_≡_, refl, sym, _∙_}
 use Prim.Native.Nat.{_≤_, _-_}
 use lib.Dec.{eqb}
 use borrow.Author.Tests.{ne-eqb}
-use Rattle.model.specs.Choice.{_or_, every}
+use Rattle.basics.specs.Choice.{_or_, every}
 use Rattle.model.specs.Layout.{peeredAt, peerHandleAt}
-use Rattle.model.proofs.Choice.{clash, or-true}
-use Rattle.model.proofs.Loops.{every-none, every-more, every-all}
+use Rattle.basics.proofs.Choice.{clash, or-true}
+use Rattle.basics.proofs.Loops.{every-none, every-more, every-all}
 use Rattle.peers.proofs.Laws.{apart-unmarked, apart-marked}
 use Rattle.peers.proofs.handle_alone.Statement.{statement}
 use Rattle.peers.proofs.handle_alone.Tie as tie

@@ -5,11 +5,11 @@ use mathlib.Core.Bool.{true, false}
 use mathlib.Core.Path.{_≡_, refl, sym}
 use Prim.Native.Nat.{_≤_, _-_}
 use borrow.Author.Tests.{not-false}
-use Rattle.model.specs.Choice.{every}
+use Rattle.basics.specs.Choice.{every}
 use Rattle.model.specs.Layout.{mostIds}
 use Rattle.model.specs.Peers.{peerApart}
-use Rattle.model.proofs.Choice.{clash}
-use Rattle.model.proofs.Loops.{every-none, every-more, every-all}
+use Rattle.basics.proofs.Choice.{clash}
+use Rattle.basics.proofs.Loops.{every-none, every-more, every-all}
 use Rattle.peers.proofs.handles_alone.Statement.{statement}
 use Rattle.peers.proofs.handles_alone.Tie as tie
 

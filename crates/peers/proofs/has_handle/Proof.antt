@@ -1,6 +1,6 @@
 -- `peers::has_handle` meets its contract.
 -- Assumes nothing.
-use Rattle.model.specs.Choice.{isFound}
+use Rattle.basics.specs.Choice.{isFound}
 use borrow.Author.Needs.{needs}
 use Rattle.peers.proofs.has_handle.Statement.{statement}
 use Rattle.peers.proofs.has_handle.Tie as tie

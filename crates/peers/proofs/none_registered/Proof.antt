@@ -7,7 +7,7 @@ use Prim.Native.Nat.{ℕ, _+_, _-_, _<_, _≤_}
 use lib.Dec.{eqb}
 use borrow.Author.Tests.{eqb-true, eqb-false}
 use Rattle.model.specs.Layout.{channelCount, peeredAt}
-use Rattle.model.proofs.Choice.{both}
+use Rattle.basics.proofs.Choice.{both}
 use Rattle.names.proofs.Bytes.{both-pass}
 use Rattle.peers.proofs.none_registered.Statement.{statement}
 use Rattle.peers.proofs.none_registered.Tie as tie

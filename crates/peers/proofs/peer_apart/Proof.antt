@@ -5,10 +5,10 @@ use mathlib.Core.Bool.{true, not}
 use mathlib.Core.Path.{_≡_, sym, _∙_}
 use Prim.Native.Nat.{_≤_, _-_}
 use lib.Dec.{eqb}
-use Rattle.model.specs.Choice.{_or_, every}
+use Rattle.basics.specs.Choice.{_or_, every}
 use Rattle.model.specs.Layout.{peeredAt, peerHandleAt}
 use Rattle.model.specs.Peers.{peerApart}
-use Rattle.model.proofs.Loops.{no, yes, every-none, every-more, every-fails, every-all}
+use Rattle.basics.proofs.Loops.{no, yes, every-none, every-more, every-fails, every-all}
 use Rattle.peers.proofs.Laws.{apart-unmarked, apart-marked}
 use Rattle.peers.proofs.peer_apart.Statement.{statement}
 use Rattle.peers.proofs.peer_apart.Tie as tie

@@ -4,7 +4,7 @@ use native.Mathlib.Omega.{arith}
 use mathlib.Core.Path.{_≡_, sym, _∙_}
 use Prim.Native.Nat.{_-_}
 use Rattle.model.specs.Layout.{idIn, peeredAt}
-use Rattle.model.proofs.Loops.{refute}
+use Rattle.basics.proofs.Loops.{refute}
 use Rattle.peers.proofs.Laws.{Registered, unmarked, registered, minor-left}
 use borrow.Author.Needs.{needs}
 use Rattle.peers.proofs.peer_sound.Statement.{statement}

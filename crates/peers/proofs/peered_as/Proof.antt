@@ -1,7 +1,7 @@
 -- `peers::peered_as` meets its contract: the cases of the definition.
 -- Assumes nothing.
 use borrow.Author.Tests.{ne-eqb, eq-eqb}
-use Rattle.model.specs.Choice.{_and_}
+use Rattle.basics.specs.Choice.{_and_}
 use borrow.Author.Needs.{needs}
 use Rattle.peers.proofs.peered_as.Statement.{statement}
 use Rattle.peers.proofs.peered_as.Tie as tie

@@ -2,11 +2,11 @@
 -- Assumes nothing.
 use mathlib.Core.Bool.{true}
 use mathlib.Core.Path.{_≡_, sym}
-use Rattle.model.specs.Choice.{every}
+use Rattle.basics.specs.Choice.{every}
 use Rattle.model.specs.Layout.{mostIds, readyAt}
 use Rattle.model.specs.Peers.{peerSound}
-use Rattle.model.proofs.Choice.{clash}
-use Rattle.model.proofs.Loops.{refute, no, yes}
+use Rattle.basics.proofs.Choice.{clash}
+use Rattle.basics.proofs.Loops.{refute, no, yes}
 use Rattle.model.proofs.Peers.{unmarked-sound}
 use Rattle.peers.proofs.Laws.{each-part, apart-part, count-left}
 use borrow.Author.Needs.{needs}

@@ -4,10 +4,10 @@ use native.Mathlib.Omega.{arith}
 use mathlib.Core.Bool.{true}
 use mathlib.Core.Path.{_≡_}
 use Prim.Native.Nat.{_≤_, _-_}
-use Rattle.model.specs.Choice.{every}
+use Rattle.basics.specs.Choice.{every}
 use Rattle.model.specs.Layout.{mostIds}
 use Rattle.model.specs.Peers.{peerApart}
-use Rattle.model.proofs.Loops.{no, yes, every-none, every-more, every-fails, every-all}
+use Rattle.basics.proofs.Loops.{no, yes, every-none, every-more, every-fails, every-all}
 use Rattle.peers.proofs.registered_apart.Statement.{statement}
 use Rattle.peers.proofs.registered_apart.Tie as tie
 

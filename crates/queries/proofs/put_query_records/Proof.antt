@@ -5,7 +5,7 @@ use Prim.Native.Nat.{_≤_, _-_, _+_, _*_}
 use mathlib.Core.Path.{_≡_, refl, _∙_}
 use lib.ListN.{length, length-take, length-drop}
 use lib.Seq.{sets}
-use Rattle.model.specs.Choice.{joined}
+use Rattle.basics.specs.Choice.{joined}
 use Rattle.model.specs.Memory.{addrIn, sizeIn, queryRecord}
 use Rattle.model.proofs.Replies.{query-length}
 use Rattle.records.proofs.Parts.{record-more}

@@ -2,7 +2,7 @@
 -- Assumes nothing.
 use mathlib.Core.Path.{_≡_, sym, ap, _∙_}
 use mathlib.Core.Bool.{Bool, true, false}
-use Rattle.model.specs.Choice.{_or_}
+use Rattle.basics.specs.Choice.{_or_}
 use Rattle.model.specs.Messages.{registeredFor}
 use Rattle.model.specs.Calls.{goesToHost}
 use borrow.Author.Needs.{needs}

@@ -1,4 +1,4 @@
-use Rattle.model.specs.Choice.{pick}
+use Rattle.basics.specs.Choice.{pick}
 use Rattle.model.specs.Calls.{receiving}
 use Rattle.model.proofs.Handlers.{silent-handles}
 use borrow.Author.Needs.{needs}

@@ -2,7 +2,7 @@
 -- Assumes nothing.
 use mathlib.Core.Path.{_≡_, refl, sym, _∙_}
 use Rattle.wire.specs.BigEndian.{written}
-use Rattle.model.specs.declared.Found.{Found}
+use Rattle.basics.specs.declared.Found.{Found}
 use Rattle.model.specs.Peers.{peerFor}
 use Rattle.model.specs.Calls.{peerData}
 use borrow.Author.Needs.{needs}

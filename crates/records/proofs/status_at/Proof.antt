@@ -1,5 +1,5 @@
 use borrow.Author.Tests.{eq-eqb, ne-eqb}
-use Rattle.model.specs.Choice.{pick}
+use Rattle.basics.specs.Choice.{pick}
 use Rattle.model.specs.Memory.{statusAt}
 use borrow.Author.Needs.{needs}
 use Rattle.records.proofs.status_at.Statement.{statement}

@@ -2,10 +2,10 @@
 -- Assumes nothing.
 use native.Mathlib.Omega.{arith}
 use mathlib.Core.Path.{_≡_, sym, _∙_}
-use Rattle.model.specs.declared.Found.{Found}
+use Rattle.basics.specs.declared.Found.{Found}
 use Rattle.model.specs.Layout.{mostIds}
 use Rattle.model.specs.Peers.{peerFor}
-use Rattle.model.proofs.Choice.{first-facts}
+use Rattle.basics.proofs.Choice.{first-facts}
 use Rattle.registration.proofs.end_peer.Statement.{statement}
 use Rattle.registration.proofs.end_peer.Tie as tie
 

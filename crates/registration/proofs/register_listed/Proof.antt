@@ -3,7 +3,7 @@
 use mathlib.Core.Path.{_≡_, sym, _∙_}
 use mathlib.Core.Bool.{Bool, true, false}
 use Rattle.model.specs.Peers.{isPeered}
-use Rattle.model.proofs.Choice.{pick-true, pick-false}
+use Rattle.basics.proofs.Choice.{pick-true, pick-false}
 use native.Mathlib.Omega.{arith}
 use Rattle.registration.proofs.register_listed.Statement.{statement}
 use Rattle.registration.proofs.register_listed.Tie as tie

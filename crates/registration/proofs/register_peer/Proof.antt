@@ -2,7 +2,7 @@
 -- Assumes nothing.
 use mathlib.Core.Bool.{false}
 use Rattle.model.specs.Messages.{regHandle, regId}
-use Rattle.model.specs.declared.Found.{Found}
+use Rattle.basics.specs.declared.Found.{Found}
 use native.Mathlib.Omega.{arith}
 use mathlib.Core.Path.{_≡_, sym, _∙_}
 use Rattle.model.proofs.Rules.{sound-facts}

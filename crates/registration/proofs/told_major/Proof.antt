@@ -2,7 +2,7 @@
 -- Assumes nothing.
 use native.Mathlib.Omega.{arith}
 use borrow.Author.Tests.{lt-ltb, le-ltb}
-use Rattle.model.specs.Choice.{pick}
+use Rattle.basics.specs.Choice.{pick}
 use Rattle.registration.proofs.told_major.Statement.{statement}
 use Rattle.registration.proofs.told_major.Tie as tie
 

@@ -1,4 +1,4 @@
-use Rattle.model.specs.Choice.{_or_}
+use Rattle.basics.specs.Choice.{_or_}
 use Rattle.removal_state.proofs.Laws.{cancelled-is, count-is, position-is}
 use borrow.Author.Needs.{needs}
 use Rattle.removal.proofs.is_over.Statement.{statement}

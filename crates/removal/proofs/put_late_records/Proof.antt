@@ -3,7 +3,7 @@ use Prim.Native.Nat.{_≤_, _-_}
 use mathlib.Core.Path.{_≡_, refl, _∙_}
 use lib.ListN.{length}
 use lib.Seq.{sets}
-use Rattle.model.specs.Choice.{joined}
+use Rattle.basics.specs.Choice.{joined}
 use Rattle.model.specs.Layout.{replyHeaderBytes}
 use Rattle.model.proofs.Replies.{result-length}
 use Rattle.records.proofs.Parts.{result-more}

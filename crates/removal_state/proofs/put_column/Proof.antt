@@ -4,9 +4,9 @@ use mathlib.Core.Path.{_≡_, refl, _∙_}
 use lib.ListN.{take}
 use lib.Seq.{sets}
 use Rattle.wire.specs.BigEndian.{numberAt}
-use Rattle.model.specs.Choice.{tabulate}
+use Rattle.basics.specs.Choice.{tabulate}
 use Rattle.model.specs.Layout.{mostRecords, pairBytes}
-use Rattle.model.proofs.Choice.{tabulate-at, tabulate-length}
+use Rattle.basics.proofs.Choice.{tabulate-at, tabulate-length}
 use Rattle.state.proofs.Runs.{sets-more, sets-done}
 use Rattle.removal_state.proofs.put_column.Statement.{statement}
 use Rattle.removal_state.proofs.put_column.Tie as tie

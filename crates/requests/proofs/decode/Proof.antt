@@ -1,6 +1,6 @@
 use mathlib.Core.Path.{_∙_, sym}
 use mathlib.Core.Bool.{true, false}
-use Rattle.model.specs.Choice.{pick}
+use Rattle.basics.specs.Choice.{pick}
 use Rattle.requests.proofs.Laws.{short-is, status-is, cancel-is}
 use borrow.Author.Needs.{needs}
 use Rattle.requests.proofs.decode.Statement.{statement}

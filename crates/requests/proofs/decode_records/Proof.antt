@@ -1,4 +1,4 @@
-use Rattle.model.proofs.Loops.{no, yes}
+use Rattle.basics.proofs.Loops.{no, yes}
 use Rattle.requests.proofs.Laws.{none-is, other-is, configure-is, unconfigure-is, query-is}
 use borrow.Author.Needs.{needs}
 use Rattle.requests.proofs.decode_records.Statement.{statement}

@@ -1,5 +1,5 @@
 use borrow.Author.Tests.{ne-eqb}
-use Rattle.model.specs.Choice.{_and_}
+use Rattle.basics.specs.Choice.{_and_}
 use Rattle.model.specs.Memory.{hasNothing}
 use borrow.Author.Needs.{needs}
 use Rattle.requests.proofs.has_nothing.Statement.{statement}

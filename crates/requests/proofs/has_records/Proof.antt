@@ -1,6 +1,6 @@
 use native.Mathlib.Omega.{arith}
 use mathlib.Core.Path.{sym}
-use Rattle.model.proofs.Loops.{refute}
+use Rattle.basics.proofs.Loops.{refute}
 use Rattle.requests.proofs.Laws.{counted, counted-last}
 use borrow.Author.Needs.{needs}
 use Rattle.requests.proofs.has_records.Statement.{statement}

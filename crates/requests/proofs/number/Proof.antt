@@ -1,5 +1,5 @@
 use borrow.Author.Tests.{lt-ltb, le-ltb}
-use Rattle.model.specs.Choice.{pick}
+use Rattle.basics.specs.Choice.{pick}
 use Rattle.model.specs.Memory.{requestNumber}
 use borrow.Author.Needs.{needs}
 use Rattle.requests.proofs.number.Statement.{statement}

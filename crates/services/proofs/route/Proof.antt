@@ -1,5 +1,5 @@
 use borrow.Author.Tests.{eq-eqb, ne-eqb}
-use Rattle.model.specs.Choice.{pick, _or_}
+use Rattle.basics.specs.Choice.{pick, _or_}
 use Rattle.model.specs.Messages.{route}
 use Rattle.services.proofs.route.Statement.{statement}
 use Rattle.services.proofs.route.Tie as tie

@@ -2,7 +2,7 @@
 -- Assumes nothing.
 use mathlib.Core.Path.{refl}
 use borrow.Author.Needs.{needs}
-use Rattle.model.specs.Choice.{_and_, every}
+use Rattle.basics.specs.Choice.{_and_, every}
 use Rattle.model.specs.Messages.{services}
 use Rattle.services.specs.Table.{endsInZero, rowFits}
 use Rattle.services.proofs.row_of.Statement.{statement}

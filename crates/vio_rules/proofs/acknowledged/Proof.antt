@@ -1,7 +1,7 @@
 -- `vio_rules::acknowledged` meets its contract: by its two tests.
 -- Assumes nothing.
 use borrow.Author.Tests.{eq-eqb, ne-eqb, le-leb, lt-leb}
-use Rattle.model.specs.Choice.{pick, _and_}
+use Rattle.basics.specs.Choice.{pick, _and_}
 use Rattle.vio_model.specs.Rules.{acknowledged}
 use Rattle.vio_rules.proofs.acknowledged.Statement.{statement}
 use Rattle.vio_rules.proofs.acknowledged.Tie as tie

@@ -4,7 +4,7 @@ use native.Mathlib.Omega.{arith}
 use mathlib.Core.Path.{sym, _∙_}
 use borrow.Author.Tests.{eq-eqb, ne-eqb}
 use borrow.Author.Needs.{needs}
-use Rattle.model.specs.Choice.{pick, _and_}
+use Rattle.basics.specs.Choice.{pick, _and_}
 use Rattle.vio_model.proofs.Words.{sound-facts}
 use Rattle.vio_model.specs.Layout.{endOf}
 use Rattle.vio_model.specs.Rules.{answersOpen}

@@ -2,7 +2,7 @@
 -- Assumes nothing.
 use mathlib.Core.Path.{sym, _∙_}
 use borrow.Author.Needs.{needs}
-use Rattle.model.specs.Choice.{pick}
+use Rattle.basics.specs.Choice.{pick}
 use Rattle.vio_model.specs.Rules.{heard}
 use Rattle.vio_rules.proofs.heard.Statement.{statement}
 use Rattle.vio_rules.proofs.heard.Tie as tie

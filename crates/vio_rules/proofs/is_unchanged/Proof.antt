@@ -1,7 +1,7 @@
 -- `vio_rules::is_unchanged` meets its contract: by its two tests.
 -- Assumes nothing.
 use borrow.Author.Tests.{eq-eqb, ne-eqb}
-use Rattle.model.specs.Choice.{_and_}
+use Rattle.basics.specs.Choice.{_and_}
 use Rattle.vio_rules.proofs.is_unchanged.Statement.{statement}
 use Rattle.vio_rules.proofs.is_unchanged.Tie as tie
 

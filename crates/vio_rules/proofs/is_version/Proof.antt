@@ -1,7 +1,7 @@
 -- `vio_rules::is_version` meets its contract: by its three tests.
 -- Assumes nothing.
 use borrow.Author.Tests.{eq-eqb, ne-eqb}
-use Rattle.model.specs.Choice.{_and_}
+use Rattle.basics.specs.Choice.{_and_}
 use Rattle.vio_model.specs.Rules.{isVersion}
 use Rattle.vio_rules.proofs.is_version.Statement.{statement}
 use Rattle.vio_rules.proofs.is_version.Tie as tie

@@ -4,9 +4,9 @@ use native.Mathlib.Omega.{arith}
 use mathlib.Core.Path.{sym, _∙_}
 use borrow.Author.Tests.{ltb-true}
 use borrow.Author.Needs.{needs}
-use Rattle.model.specs.Choice.{pick}
-use Rattle.model.proofs.Choice.{both}
-use Rattle.model.proofs.Loops.{no, yes}
+use Rattle.basics.specs.Choice.{pick}
+use Rattle.basics.proofs.Choice.{both}
+use Rattle.basics.proofs.Loops.{no, yes}
 use Rattle.vio_model.specs.Rules.{refused}
 use Rattle.vio_rules.proofs.refused.Statement.{statement}
 use Rattle.vio_rules.proofs.refused.Tie as tie

@@ -1,7 +1,7 @@
 -- `vio_rules::tells_lower` meets its contract: by its three tests.
 -- Assumes nothing.
 use borrow.Author.Tests.{lt-ltb, le-ltb}
-use Rattle.model.specs.Choice.{_and_, _or_}
+use Rattle.basics.specs.Choice.{_and_, _or_}
 use Rattle.vio_rules.proofs.tells_lower.Statement.{statement}
 use Rattle.vio_rules.proofs.tells_lower.Tie as tie
 

@@ -4,8 +4,8 @@ use Prim.Native.Nat.{_≤_, _-_}
 use mathlib.Core.Bool.{true}
 use mathlib.Core.Path.{_≡_, sym, _∙_}
 use native.Mathlib.Omega.{arith}
-use Rattle.model.specs.Choice.{every}
-use Rattle.model.proofs.Loops.{refute, no, yes, every-none, every-more, every-fails, every-all}
+use Rattle.basics.specs.Choice.{every}
+use Rattle.basics.proofs.Loops.{refute, no, yes, every-none, every-more, every-fails, every-all}
 use Rattle.vio_model.specs.Versions.{versionKeeps}
 use Rattle.vio_model.proofs.Versions.{list-rules, list-last}
 use Rattle.vio_versions.proofs.accepted_list.Statement.{statement}

@@ -3,8 +3,8 @@
 use mathlib.Core.Path.{sym}
 use borrow.Author.Tests.{le-ltb, lt-ltb}
 use borrow.Author.Needs.{needs}
-use Rattle.model.specs.Choice.{_and_}
-use Rattle.model.proofs.Choice.{and-false}
+use Rattle.basics.specs.Choice.{_and_}
+use Rattle.basics.proofs.Choice.{and-false}
 use Rattle.vio_versions.proofs.names_held.Statement.{statement}
 use Rattle.vio_versions.proofs.names_held.Tie as tie
 

@@ -2,7 +2,7 @@
 -- Assumes nothing.
 use native.Mathlib.Omega.{arith}
 use borrow.Author.Tests.{eq-eqb, ne-eqb}
-use Rattle.model.specs.Choice.{pick}
+use Rattle.basics.specs.Choice.{pick}
 use Rattle.vio_model.specs.Layout.{sessionIn, askedStage, agreedStage}
 use Rattle.vio_versions.proofs.session_in.Statement.{statement}
 use Rattle.vio_versions.proofs.session_in.Tie as tie

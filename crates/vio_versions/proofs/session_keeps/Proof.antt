@@ -2,8 +2,8 @@
 -- Assumes nothing.
 use mathlib.Core.Path.{sym}
 use borrow.Author.Needs.{needs}
-use Rattle.model.specs.Choice.{_and_}
-use Rattle.model.proofs.Loops.{no, yes}
+use Rattle.basics.specs.Choice.{_and_}
+use Rattle.basics.proofs.Loops.{no, yes}
 use Rattle.vio_versions.proofs.Sessions.{asked-keeps, agreed-keeps, other-keeps}
 use Rattle.vio_versions.proofs.session_keeps.Statement.{statement}
 use Rattle.vio_versions.proofs.session_keeps.Tie as tie

@@ -5,9 +5,9 @@ use native.Mathlib.Omega.{arith}
 use borrow.Author.Needs.{needs}
 use Rattle.vio_model.specs.Versions.{acceptedList}
 use Rattle.vio_model.specs.Sound.{sessionKeeps}
-use Rattle.model.proofs.Choice.{clash}
+use Rattle.basics.proofs.Choice.{clash}
 use Rattle.vio_model.proofs.Words.{sound-last, sound-facts}
-use Rattle.model.proofs.Loops.{refute, no, yes}
+use Rattle.basics.proofs.Loops.{refute, no, yes}
 use Rattle.vio_versions.proofs.sound.Statement.{statement}
 use Rattle.vio_versions.proofs.sound.Tie as tie
 

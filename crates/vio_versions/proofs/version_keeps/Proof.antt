@@ -4,7 +4,7 @@ use mathlib.Core.Bool.{not}
 use mathlib.Core.Path.{ap, sym, _∙_}
 use native.Mathlib.Omega.{arith}
 use borrow.Author.Needs.{needs}
-use Rattle.model.proofs.Loops.{refute}
+use Rattle.basics.proofs.Loops.{refute}
 use Rattle.vio_model.proofs.Versions.{version-rules, version-last}
 use Rattle.vio_versions.proofs.version_keeps.Statement.{statement}
 use Rattle.vio_versions.proofs.version_keeps.Tie as tie

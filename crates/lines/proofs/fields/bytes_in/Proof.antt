@@ -5,8 +5,8 @@ use mathlib.Core.List.{_++_}
 use Prim.Native.Nat.{_-_, _%_, _≤_}
 use native.Mathlib.Omega.{arith}
 use lib.ListN.{length, set, drop, length-set}
-use Rattle.model.specs.Choice.{every, tabulate}
-use Rattle.model.proofs.Loops.{every-none, every-more}
+use Rattle.basics.specs.Choice.{every, tabulate}
+use Rattle.basics.proofs.Loops.{every-none, every-more}
 use Rattle.lines.specs.Fields.{byteOf, isByte}
 use Rattle.lines.proofs.Bytes.{table-more, no-pair, a-pair, none-to-read, odd-to-read, no-room, bad-pair, all-read}
 use Rattle.lines.proofs.fields.bytes_in.Statement.{statement}

@@ -4,7 +4,7 @@ use mathlib.Core.Bool.{true}
 use Prim.Native.Nat.{_-_, _≤_, _<_}
 use native.Mathlib.Omega.{arith}
 use lib.ListN.{length, getD}
-use Rattle.model.specs.Choice.{every}
+use Rattle.basics.specs.Choice.{every}
 use Rattle.lines.specs.Fields.{valueOf, areDigits, appended}
 use Rattle.lines.proofs.Numbers.{no-digits, stops, goes-on, ended}
 use Rattle.lines.proofs.fields.digits.Statement.{statement}

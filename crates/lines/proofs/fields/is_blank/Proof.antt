@@ -5,8 +5,8 @@ use native.Mathlib.Omega.{arith}
 use lib.ListN.{length, getD}
 use lib.Dec.{eqb}
 use borrow.Author.Tests.{eq-eqb, ne-eqb}
-use Rattle.model.specs.Choice.{every}
-use Rattle.model.proofs.Loops.{every-none, every-more, every-fails, every-all}
+use Rattle.basics.specs.Choice.{every}
+use Rattle.basics.proofs.Loops.{every-none, every-more, every-fails, every-all}
 use Rattle.lines.proofs.fields.is_blank.Statement.{statement}
 use Rattle.lines.proofs.fields.is_blank.Tie as tie
 

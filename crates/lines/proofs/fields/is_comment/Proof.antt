@@ -1,7 +1,7 @@
 use native.Mathlib.Omega.{arith}
 use lib.ListN.{length}
 use borrow.Author.Tests.{lt-ltb, le-ltb}
-use Rattle.model.specs.Choice.{_and_}
+use Rattle.basics.specs.Choice.{_and_}
 use Rattle.lines.specs.Fields.{isComment}
 use borrow.Author.Needs.{needs}
 use Rattle.lines.proofs.fields.is_comment.Statement.{statement}

@@ -5,7 +5,7 @@ use lib.ListN.{length, drop, length-drop}
 use lib.Seq.{take-all}
 use mathlib.Core.Path.{sym, ap, _∙_}
 use borrow.Author.Tests.{lt-leb, le-leb, eq-eqb, ne-eqb}
-use Rattle.model.proofs.Choice.{pick-true, pick-false, join, and-false, and-false-right}
+use Rattle.basics.proofs.Choice.{pick-true, pick-false, join, and-false, and-false-right}
 use Rattle.lines.specs.Fields.{numberIn, isPrefixed, digitsIn}
 use borrow.Author.Needs.{needs}
 use Rattle.lines.proofs.fields.number_in.Statement.{statement}

@@ -5,9 +5,9 @@ use native.Mathlib.Omega.{arith}
 use lib.ListN.{length, getD}
 use lib.Dec.{eqb}
 use borrow.Author.Tests.{eq-eqb, ne-eqb}
-use Rattle.model.specs.Choice.{every}
-use Rattle.model.proofs.Choice.{join, and-false, and-false-right}
-use Rattle.model.proofs.Loops.{every-none, every-more, every-fails, every-all}
+use Rattle.basics.specs.Choice.{every}
+use Rattle.basics.proofs.Choice.{join, and-false, and-false-right}
+use Rattle.basics.proofs.Loops.{every-none, every-more, every-fails, every-all}
 use Rattle.lines.specs.Fields.{areSame}
 use Rattle.lines.proofs.fields.same.Statement.{statement}
 use Rattle.lines.proofs.fields.same.Tie as tie

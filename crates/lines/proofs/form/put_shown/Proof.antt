@@ -3,7 +3,7 @@
 use native.Mathlib.Omega.{arith}
 use borrow.Author.Needs.{needs}
 use borrow.Author.Tests.{le-ltb, lt-ltb, ne-eqb}
-use Rattle.model.specs.Choice.{pick}
+use Rattle.basics.specs.Choice.{pick}
 use Rattle.lines.specs.Forms.{shown}
 use Rattle.lines.proofs.Puts.{puts-within}
 use Rattle.lines.proofs.form.put_shown.Statement.{statement}

@@ -3,7 +3,7 @@
 use native.Mathlib.Omega.{arith}
 use borrow.Author.Needs.{needs}
 use borrow.Author.Tests.{ne-eqb}
-use Rattle.model.specs.Choice.{pick}
+use Rattle.basics.specs.Choice.{pick}
 use Rattle.lines.specs.Forms.{tailOf}
 use Rattle.lines.proofs.Puts.{puts-then, puts-within}
 use Rattle.lines.proofs.form.put_tail.Statement.{statement}

@@ -2,7 +2,7 @@
 -- Assumes nothing.
 use borrow.Author.Needs.{needs}
 use borrow.Author.Tests.{le-leb, lt-leb}
-use Rattle.model.specs.Choice.{pick}
+use Rattle.basics.specs.Choice.{pick}
 use Rattle.lines.specs.Forms.{startOf}
 use Rattle.lines.proofs.output.make_room.Statement.{statement}
 use Rattle.lines.proofs.output.make_room.Tie as tie

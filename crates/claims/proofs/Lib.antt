@@ -1,0 +1,15 @@
+pub mod Configured
+pub mod Steps
+pub mod Lists
+pub mod Settled
+pub mod Delivers
+pub mod Demand3
+pub mod Repeats
+pub mod AddsUp
+pub mod Ends
+pub mod Replay
+pub mod ListsHold
+pub mod Kept
+pub mod WorkKept
+pub mod Day
+pub mod Encoding

@@ -1,0 +1,12 @@
+pub mod PeerTurns
+pub mod SettledWord
+pub mod Events
+pub mod Needs
+pub mod Effects
+pub mod MemoryEffects
+pub mod WorkEffects
+pub mod DeviceEffects
+pub mod OrderEffects
+pub mod PeerEffects
+pub mod ReceiveEffects
+pub mod Taken

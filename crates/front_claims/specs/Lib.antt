@@ -1,0 +1,3 @@
+pub mod Dropping
+pub mod Lists
+pub mod Cutting
