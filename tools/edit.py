@@ -2,7 +2,7 @@
 import re
 
 # a function as `rt fmt` lays it out
-FUNCTION = re.compile(r'^(?:pub )?(?:extern "C" )?fn (\w+).*?^}$', re.M | re.S)
+FUNCTION = re.compile(r'^(?:pub(?:\(crate\))? )?(?:extern "C" )?fn (\w+).*?^}$', re.M | re.S)
 
 
 class Wrong(Exception):

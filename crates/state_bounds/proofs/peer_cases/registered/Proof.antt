@@ -1,10 +1,10 @@
--- `bounds::peer_cases::registered` meets its contract: it ends.
+-- `state_bounds::peer_cases::registered` meets its contract: it ends.
 -- Assumes nothing.
 use borrow.Author.Needs.{needs}
 use Prim.Native.Nat.{_≤_, _-_}
 use Rattle.model.specs.Layout.{mostIds}
-use Rattle.bounds.proofs.peer_cases.registered.Statement.{statement}
-use Rattle.bounds.proofs.peer_cases.registered.Tie as tie
+use Rattle.state_bounds.proofs.peer_cases.registered.Statement.{statement}
+use Rattle.state_bounds.proofs.peer_cases.registered.Tie as tie
 
 abbrev Inv-loop : tie.InvT-loop
 Inv-loop marks state₀ p₀ state p = p ≤ mostIds
