@@ -22,12 +22,11 @@ use Rattle.model.specs.Reading.{View}
 use Rattle.claims.specs.Demand3.{Run, entries, noEntry}
 use Rattle.claims.specs.Ends.{blockOf, told, movedBy, movedSince, SettledOk, AddsUp}
 use Rattle.basics.proofs.Choice.{clash, on-pick}
-use Rattle.model.proofs.Rules.{sound-facts}
+use Rattle.model.proofs.Rules.{sound-facts, Given}
 use Rattle.model.proofs.Sounds.{named-less}
 use Rattle.model.proofs.View.{shape-moves}
 use Rattle.model.proofs.Ring.{event-back}
 use Rattle.model.proofs.Turns.{SameSizes, Turn, leaves, configures, begins, marks, steps, aside, sizes-then}
-use Rattle.model.proofs.Rules.{Given}
 use Rattle.effects.proofs.Effects.{shape}
 use Rattle.effects.proofs.WorkEffects.{on-step, remains}
 use Rattle.claims.proofs.Steps.{Step, adds, nowork, ok, ends, step-of, turn-sizes}

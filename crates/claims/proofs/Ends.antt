@@ -30,12 +30,11 @@ use Rattle.claims.specs.EveryList.{AllMeet, OfEveryList}
 use Rattle.claims.specs.Repeats.{addressAt, sizeAt, requestIn}
 use Rattle.claims.specs.Ends.{pagesAt, pagesOfFirst, pagesNamed, isWork, stepsBy, stepsIn, notesBy, endsIn, Ends, pagesListed, pagesAsked, told, SettledOk}
 use Rattle.basics.proofs.Choice.{clash, both, on-pick, or-false, and-false-right}
-use Rattle.model.proofs.Rules.{sound-facts, block-rules}
+use Rattle.model.proofs.Rules.{sound-facts, block-rules, Given}
 use Rattle.model.proofs.Sounds.{named-less}
 use Rattle.model.proofs.Turns.{SameSizes, Turn, leaves, configures, begins, marks, steps, aside, sizes-then}
 use Rattle.claims.proofs.Steps.{Step, adds, nowork, ok, ends, step-of, turn-sizes}
 use Rattle.model.proofs.View.{shape-moves}
-use Rattle.model.proofs.Rules.{Given}
 use Rattle.effects.proofs.Effects.{shape}
 use Rattle.effects.proofs.WorkEffects.{Working, remains}
 use Rattle.effects.proofs.Taken.{Taken, taken}

@@ -35,8 +35,7 @@ use Rattle.model.proofs.Words.{number-frame, loaded-arrays}
 use Rattle.model.proofs.View.{shape-moves}
 use Rattle.claims.proofs.Steps.{Step, adds, nowork, ok, ends, step-of}
 use Rattle.model.proofs.Replies.{behind, record-stands, result-length, query-length}
-use Rattle.model.proofs.Rules.{sound-facts}
-use Rattle.model.proofs.Rules.{Given}
+use Rattle.model.proofs.Rules.{sound-facts, Given}
 use Rattle.effects.proofs.Effects.{shape, number-only, given-numbers}
 use Rattle.effects.proofs.MemoryEffects.{numbered, new-arrays}
 use Rattle.claims.proofs.Configured.{repeat-result}

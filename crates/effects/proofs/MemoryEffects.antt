@@ -26,13 +26,12 @@ use Rattle.model.proofs.Words.{Agree, Arrays, loaded-arrays, configured-frame, 
 use Rattle.model.proofs.Above.{leavesAbove}
 use Rattle.model.proofs.Peers.{leavesChannels, up-to-noted, leavesAsRead}
 use Rattle.model.proofs.View.{Moves, shape-moves, stays, then, turns, configured-moves, removal-moves}
-use Rattle.model.proofs.Rules.{Base, Ours, RemovalFacts}
+use Rattle.model.proofs.Rules.{Base, Ours, RemovalFacts, Given}
 use Rattle.effects.proofs.Events.{Fits, codeEnd, answered-fits, configured-fits, begun-fits, cancelled-fits}
 use Rattle.model.proofs.Sounds.{named-less, base-configured, base-removal, removes-made, removes-none}
 use Rattle.model.proofs.Turns.{SameSizes, SameBlocks, NewRemoval, Turn, configures, begins, marks, aside, same-sizes, sizes-then, flag-sizes, removal-blocks, new-removal}
 use Rattle.model.proofs.Mask.{configured-none, configured-more, bit-none, bit-within, none-within}
 use Rattle.model.proofs.Replies.{short-empty, memory-length, results-short, queries-short, result-length, query-length, status-length}
-use Rattle.model.proofs.Rules.{Given}
 use Rattle.model.specs.Replay.{isRemoving}
 use Rattle.effects.proofs.Needs.{answered-needs, configured-needs, begun-needs, cancelled-needs}
 use Rattle.model.proofs.Shown.{Reaches}

@@ -8,8 +8,7 @@ use borrow.Author.Tests.{lt-ltb}
 use Rattle.basics.specs.Choice.{pick, _and_, _or_}
 use Rattle.model.specs.Layout.{memoryService}
 use Rattle.model.specs.Journal.{sixBits, settledWord, fieldsOf, readyEvent, closedEvent, versionRefusedEvent, offeredEvent, registeredEvent, offerRefusedEvent, serviceEndedEvent, deliveredEvent, dataRefusedEvent, answeredEvent, configuredEvent, begunEvent, cancelledEvent, collectedEvent, settledEvent, removalEndEvent, notedEvent, deviceEvent, permittedEvent, takenEvent, orderedEvent, peerRegisteredEvent, peerEndedEvent, peerDataEvent}
-use Rattle.model.specs.Reading.{settledBlock, settledRecord, View}
-use Rattle.model.specs.Reading.{showsRegistered}
+use Rattle.model.specs.Reading.{settledBlock, settledRecord, View, showsRegistered}
 use Rattle.model.specs.Replay.{neededIn, showsReady, showsStage, isIdle, isOfferedAs, isOffered, isLive, isRegistered, isRemoving, channelNeed, serviceNeed, handleNeed, removalNeed, settles, blockNeed, needed}
 use Rattle.basics.proofs.Choice.{join}
 use Rattle.effects.proofs.SettledWord.{block-back, record-back}

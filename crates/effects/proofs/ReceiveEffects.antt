@@ -19,10 +19,9 @@ use Rattle.basics.specs.declared.Found.the-variants.{Nowhere}
 use Rattle.model.specs.declared.Route.{Route}
 use Rattle.model.specs.declared.Route.the-variants.{Memory, Devices, Orders, Host}
 use Rattle.basics.proofs.Choice.{on-pick, on-first, first-nowhere, both}
-use Rattle.model.proofs.Rules.{Ours, live-rules}
+use Rattle.model.proofs.Rules.{Ours, live-rules, Given}
 use Rattle.effects.proofs.Events.{delivered-fits, data-refused-fits}
 use Rattle.model.proofs.Replies.{short-empty, nack-short}
-use Rattle.model.proofs.Rules.{Given}
 use Rattle.effects.proofs.Effects.{Good, next-number, base-now, unchanged, closing-good, initiated-good, noting-good, acknowledged-good, not-acknowledged-good}
 use Rattle.model.proofs.Turns.{aside}
 use Rattle.effects.proofs.MemoryEffects.{memory-good}

@@ -12,8 +12,7 @@ use Rattle.model.specs.State.{sound}
 use Rattle.model.specs.Messages.{Effect}
 use Rattle.model.specs.Calls.{Action, allowed, close, effectOf, inRange, offer, receive, refusalOf, withdraw, work, permit, takeOrder}
 use Rattle.basics.proofs.Choice.{both}
-use Rattle.model.proofs.Rules.{sound-facts}
-use Rattle.model.proofs.Rules.{Given}
+use Rattle.model.proofs.Rules.{sound-facts, Given}
 use Rattle.effects.proofs.Effects.{Good, closing-good, offering-good, withdrawing-good}
 use Rattle.effects.proofs.WorkEffects.{working-good}
 use Rattle.effects.proofs.ReceiveEffects.{receiving-good}

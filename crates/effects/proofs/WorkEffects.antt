@@ -24,14 +24,13 @@ use Rattle.model.proofs.Words.{Arrays, loaded-arrays, configured-frame, removal
 use Rattle.model.proofs.Above.{leavesAbove}
 use Rattle.model.proofs.Peers.{leavesAsRead}
 use Rattle.model.proofs.View.{shape-moves, then, turns, configured-moves, removal-moves, without-moves}
-use Rattle.model.proofs.Rules.{RemovalFacts, block-rules}
+use Rattle.model.proofs.Rules.{RemovalFacts, block-rules, Given}
 use Rattle.model.proofs.Turns.{Turn, steps, same-blocks, same-removal}
 use Rattle.model.proofs.Sounds.{named-less, base-configured, base-removal, base-without, removes-made, removes-none}
 use Rattle.model.proofs.Mask.{unconfigured-set}
 use Rattle.model.proofs.Replies.{short-empty, results-short, result-length}
 use Rattle.effects.proofs.SettledWord.{block-back}
 use Rattle.effects.proofs.Events.{codeEnd, collected-fits, settled-fits, end-fits}
-use Rattle.model.proofs.Rules.{Given}
 use Rattle.effects.proofs.Effects.{Good, shape, next-number, base-now, removes-now}
 use Rattle.model.proofs.View.{shown-length, shown-at}
 use Rattle.effects.proofs.MemoryEffects.{collected-none, removing-now, removing-shown, removal-changed}
