@@ -1,5 +1,7 @@
 // A program's arguments: an option of its own, and `--status-fd N`, the descriptor on which it reports how it ended.
 // Its script gives the latter.
+#![tactic(auto)]
+
 use libc::STDERR_FILENO;
 use lines::fields::Number;
 use lines::{fields, outcome};

@@ -1,6 +1,8 @@
 // What every crate needs of choices and numbers. specs/ has connectives, choices by a test and tables of a function's
 // values; proofs/ has the laws of loops over them.
 
+#![tactic(auto)]
+
 ghost use Rattle.std.specs.Prelude.{◌≡◌, min};
 
 // What a search gives: the first place that passes, or none.

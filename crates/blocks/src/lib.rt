@@ -1,4 +1,6 @@
 // "Blocks: 0 to 16, given at setup": the rules of a block list, and the block that a pair names.
+#![tactic(auto)]
+
 ghost use Rattle.std.specs.Prelude.{◌≡◌, ◌+◌, ◌*◌, ◌≤◌, length, eqb};
 ghost use Rattle.basics.specs.Choice.{every, pick};
 ghost use Rattle.basics.specs.declared.Found.TheVariants.{At, Nowhere};

@@ -1,4 +1,6 @@
 // CONFIGURE: its records in order, and its reply.
+#![tactic(auto)]
+
 ghost use Rattle.std.specs.Prelude.{◌≡◌, ◌+◌, ◌*◌, ◌^◌, ◌≤◌, ◌<◌, length};
 ghost use Rattle.basics.specs.declared.Found.TheVariants.{At};
 ghost use Rattle.model.specs.Layout.{blocks_of, memory_header_bytes, most_blocks, most_records, output_bytes, pair_bytes, state_words};

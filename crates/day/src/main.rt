@@ -1,4 +1,6 @@
 // Document 01's day at the panel: the list of calls in stdin, which is also examples/day.calls.
+#![tactic(auto)]
+
 fn main() {
     calls::run(b"day");
 }

@@ -1,4 +1,6 @@
 // "up to 32 devices given at setup": the rules of a device list, and the device that an id and a name name.
+#![tactic(auto)]
+
 ghost use Rattle.std.specs.Prelude.{◌≡◌, true, not, ◌+◌, ◌*◌, ◌≤◌, ◌<◌, eqb, length};
 ghost use Rattle.basics.specs.Choice.{every};
 ghost use Rattle.model.specs.Layout.{device_at, device_in, devices_of, device_words, first_device_word, most_devices, with_device};

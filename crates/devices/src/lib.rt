@@ -1,4 +1,6 @@
 // "Answer `dr-vio` inside": the form of a request of the virtual devices' service, what each does to the state, and its reply.
+#![tactic(auto)]
+
 ghost use Rattle.std.specs.Prelude.{◌≡◌, true, not, List, [], ℕ, ◌+◌, ◌-◌, ◌≤◌, ◌<◌, length, eqb};
 ghost use Rattle.wire.specs.BigEndian.{byte_at, written};
 ghost use Rattle.basics.specs.Choice.{◌and◌, every, pick};

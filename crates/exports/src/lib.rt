@@ -1,5 +1,7 @@
 // The public calls under names for C and Rust to link: each is the agent's own call, or the front's, with its contract. None returns more than two words, which every
 // 64-bit calling convention returns alike: what is longer is written to what the caller lends.
+#![tactic(auto)]
+
 ghost use Rattle.model.specs.Promises.{SetupPost, ReceivePost, OfferPost, WithdrawPost, ClosePost, WorkPost, PermitPost, TakePost, DrainPost};
 ghost use Rattle.model.specs.Layout.{data_header_bytes, is_set};
 ghost use Rattle.front_model.specs.Promises.{PiecePost, ReopenPost};

@@ -1,4 +1,6 @@
 // The front of 02's ticket 9: pieces of a channel's stream, and at most one unfinished message a channel.
+#![tactic(auto)]
+
 ghost use Rattle.std.specs.Prelude.{◌≡◌, ◌*◌, ◌+◌, ◌<◌, ◌≤◌, true, ◌++◌, drop, length, take, eqb};
 ghost use Rattle.std.proofs.lemmas.List.Edits.{sets};
 ghost use Rattle.wire.specs.BigEndian.{byte_at};

@@ -1,5 +1,7 @@
 // The boundaries of 02's ticket 9 that no list of calls reaches: on fronts made by hand each way in which a front is
 // not sound, beside the soundest neighbour of each.
+#![tactic(auto)]
+
 ghost use Rattle.std.specs.Prelude.{◌≤◌, length};
 ghost use Rattle.lines.specs.Forms.{most_form};
 

@@ -1,4 +1,6 @@
 // The types of the front of 02's ticket 9, and the map of its words and bytes. Every rule over them is in specs/; each number here has the name of its definition there.
+#![tactic(auto)]
+
 ghost use Rattle.std.specs.Prelude.{◌≡◌, ◌*◌, ◌+◌, ◌<◌, get_or};
 ghost use Rattle.model.specs.Layout.{channel_count};
 ghost use Rattle.front_model.specs.Front.{part_words};

@@ -1,4 +1,6 @@
 // The VIO version handshake: setup, start and receive of one end.
+#![tactic(auto)]
+
 ghost use Rattle.std.specs.Prelude.{◌≡◌, ◌+◌, ◌≤◌, length, ◌∷◌, []};
 ghost use Rattle.std.proofs.lemmas.List.Edits.{sets};
 ghost use Rattle.vio_model.specs.Layout.{end_words, first_version_word, stage_word, with_session};

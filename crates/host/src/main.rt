@@ -1,4 +1,6 @@
 // Runs the agent over the list of calls on standard input.
+#![tactic(auto)]
+
 fn main() {
     let options = arguments::read(b"");
     if options.wrong {

@@ -1,4 +1,6 @@
 // "up to 16 different ids, at most 32 bytes with the zero, that the host lists at setup": the rules of an id list, and the listed id that has given bytes.
+#![tactic(auto)]
+
 ghost use Rattle.std.specs.Prelude.{◌≡◌, true, ◌+◌, ◌*◌, ◌≤◌, ◌<◌, length};
 ghost use Rattle.basics.specs.Choice.{every};
 ghost use Rattle.model.specs.Layout.{first_id_word, id_at, ids_of, id_words, most_ids};

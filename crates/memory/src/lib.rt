@@ -1,4 +1,6 @@
 // "Memory messages (service 0)": what each request does to the state, and its reply; CONFIGURE and QUERY by their own crates.
+#![tactic(auto)]
+
 ghost use Rattle.std.specs.Prelude.{◌≡◌, true, List, ℕ, ◌+◌, ◌*◌, ◌≤◌, ◌<◌, length};
 ghost use Rattle.std.proofs.lemmas.List.Edits.{sets};
 ghost use Rattle.basics.specs.Choice.{joined};

@@ -1,4 +1,6 @@
 // Which DS message a slice of bytes is.
+#![tactic(auto)]
+
 ghost use Rattle.std.specs.Prelude.{◌≡◌, true, ◌+◌, ◌≤◌, length, drop};
 ghost use Rattle.wire.specs.BigEndian.{number_at};
 ghost use Rattle.model.specs.Messages.{payload_length, whole_message, id_fits, payload_fits, well_formed, decoded_by_type, decoded};

@@ -1,5 +1,7 @@
 // Names held in words, eight bytes each: the rules of a name, and names that are the same. Every call of the agent tests the name of every device and id: it is
 // read word by word, and no further than its length.
+#![tactic(auto)]
+
 ghost use Rattle.std.specs.Prelude.{◌≡◌, true, ◌+◌, ◌*◌, ◌^◌, ◌≤◌, ◌<◌, eqb, length, get_or};
 ghost use Rattle.wire.specs.BigEndian.{byte_at, number_at};
 ghost use Rattle.basics.specs.Choice.{every};

@@ -1,4 +1,6 @@
 // 02, ticket 6: requests to shut down and to panic (services 2 and 3), the host's permissions, and the order that a request leaves for the host.
+#![tactic(auto)]
+
 ghost use Rattle.std.specs.Prelude.{◌≡◌, List, ℕ, ◌+◌, ◌≤◌, ◌<◌, length};
 ghost use Rattle.std.proofs.lemmas.List.Edits.{sets};
 ghost use Rattle.model.specs.Layout.{output_bytes, service_count, shutdown_service, is_set, word_of, permission_at, order_of, delay_of, with_permission, with_order};

@@ -1,4 +1,6 @@
 // A channel's peer registrations: the services that the other end has registered with us, by the place of each one's id.
+#![tactic(auto)]
+
 ghost use Rattle.std.specs.Prelude.{◌≡◌, true, not, ℕ, ◌<◌, eqb};
 ghost use Rattle.basics.specs.Choice.{◌or◌, every, is_found};
 ghost use Rattle.model.specs.Layout.{channel_count, marks_at, most_ids, peered_at, peer_handle_at, peer_minor_at, ready_at, with_peer, without_peer};

@@ -1,4 +1,6 @@
 // What a message received does: which channels hear it, and to which handler it goes; and the part of it that the host is shown.
+#![tactic(auto)]
+
 ghost use Rattle.std.specs.Prelude.{◌≡◌, true, ◌≤◌, ◌<◌, length};
 ghost use Rattle.basics.specs.declared.Found.TheVariants.{At, Nowhere};
 ghost use Rattle.model.specs.Layout.{channel_count, output_bytes};

@@ -1,4 +1,6 @@
 // 02, ticket 7: "The other end has services as well." What a REG_REQ of the peer does, and its UNREG.
+#![tactic(auto)]
+
 ghost use Rattle.std.specs.Prelude.{◌≡◌, true, List, ℕ, ◌≤◌, ◌<◌, length, leb, ltb};
 ghost use Rattle.basics.specs.declared.Found.TheVariants.{At, Nowhere};
 ghost use Rattle.basics.specs.Choice.{pick, ◌or◌, is_found};

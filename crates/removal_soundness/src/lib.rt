@@ -1,4 +1,6 @@
 // The part of soundness that is of the removal. It reads the words themselves: to load the removal would copy them all for a few tests.
+#![tactic(auto)]
+
 ghost use Rattle.std.specs.Prelude.{◌≡◌, true, ◌<◌, ◌≤◌};
 ghost use Rattle.basics.specs.declared.Found.TheVariants.{At};
 ghost use Rattle.model.specs.Layout.{highest_number, last_of, most_blocks, most_records, removal_of};

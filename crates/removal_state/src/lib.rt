@@ -1,4 +1,6 @@
 // The words of the outstanding removal: each read and each change of them. No function loads the removal whole: with 64 records it has 200 words.
+#![tactic(auto)]
+
 ghost use Rattle.std.specs.Prelude.{◌≡◌, [], ◌∷◌, ◌+◌, ◌*◌, ◌<◌, ◌≤◌, get_or, length};
 ghost use Rattle.std.proofs.lemmas.List.Edits.{sets};
 ghost use Rattle.wire.specs.BigEndian.{number_at};

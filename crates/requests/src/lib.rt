@@ -1,4 +1,6 @@
 // The form of a memory request: bytes decoded into a request.
+#![tactic(auto)]
+
 ghost use Rattle.std.specs.Prelude.{◌≡◌, ◌+◌, ◌*◌, ◌≤◌, length};
 ghost use Rattle.model.specs.Memory.{DR-MEM-UNCONF-STATUS, DR-MEM-UNCONF-CANCEL, request_number, addr_in, size_in, has_records, has_nothing, request_of, right_form};
 ghost use Rattle.model.specs.Layout.{memory_header_bytes, pair_bytes};

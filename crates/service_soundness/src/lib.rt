@@ -1,4 +1,6 @@
 // The part of soundness that is of channels and services: "services on closed channels are idle; live handles differ".
+#![tactic(auto)]
+
 ghost use Rattle.std.specs.Prelude.{◌≡◌, true, not, ◌<◌, ◌≤◌, eqb, leb};
 ghost use Rattle.basics.specs.Choice.{◌or◌, every};
 ghost use Rattle.model.specs.Layout.{channel_count, handle_at, highest_number, last_of, place_count, ready_at, stage_at, stage_idle};

@@ -1,4 +1,6 @@
 // The table of the services, where the data for each goes, and the DS messages that the agent sends.
+#![tactic(auto)]
+
 ghost use Rattle.std.specs.Prelude.{◌≡◌, ◌++◌, ◌+◌, ◌<◌, ◌≤◌, length};
 ghost use Rattle.std.proofs.lemmas.List.Edits.{sets};
 ghost use Rattle.wire.specs.BigEndian.{bytes_of};

@@ -1,5 +1,7 @@
 // The boundaries of 01 and 02 that no list of calls reaches: on states made by hand the last entry number and each way in
 // which a state is not sound, and what setup writes.
+#![tactic(auto)]
+
 mod block_cases;
 mod cases;
 mod device_cases;

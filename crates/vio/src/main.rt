@@ -1,4 +1,6 @@
 // Two ends of the VIO version handshake, over a list of lines on standard input.
+#![tactic(auto)]
+
 mod answers;
 mod list;
 mod parsed;

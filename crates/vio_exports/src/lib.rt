@@ -1,4 +1,6 @@
 // The handshake's calls under names for C and Rust to link: each is the handshake's own call, with its contract.
+#![tactic(auto)]
+
 ghost use Rattle.vio_model.specs.Step.{SetupPost, StartPost, ReceivePost};
 
 use vio_model::{Answer, Ready};

@@ -1,5 +1,7 @@
 // A VIO version message (004, 1.1.2.1): its two words, packed and unpacked.
 
+#![tactic(auto)]
+
 ghost use Rattle.std.specs.Prelude.{◌≡◌};
 ghost use Rattle.vio_message.specs.Words.{InRange, packed, unpacked};
 

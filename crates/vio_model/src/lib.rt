@@ -1,4 +1,6 @@
 // The types of one end of the VIO version handshake (02, ticket 10), and the places of its words. Every rule over them is in specs/.
+#![tactic(auto)]
+
 use vio_message::Message;
 
 // An end is 39 words that the caller lends: its class, the class that it accepts, the session's four words (stage, session id, major,

@@ -1,6 +1,8 @@
 // Every pair of lists of versions over majors 1 to 3 and minors 0 and 1, in every order: the exchange that one end
 // starts with the other, held to what must come of it by a direct definition, the highest major that both hold and
 // the lower of its minors.
+#![tactic(auto)]
+
 ghost use Rattle.std.specs.Prelude.{◌≤◌};
 
 use basics::lower;

@@ -1,4 +1,6 @@
 // The rules of ticket 10: what a sound end sends, and what each message does.
+#![tactic(auto)]
+
 ghost use Rattle.std.specs.Prelude.{◌≡◌, true, eqb, ltb};
 ghost use Rattle.basics.specs.Choice.{◌and◌, ◌or◌};
 ghost use Rattle.vio_model.specs.Layout.{end_of};

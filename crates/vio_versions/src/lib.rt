@@ -1,4 +1,6 @@
 // The versions that an end holds, its session, and its soundness, read from words that the caller lends.
+#![tactic(auto)]
+
 ghost use Rattle.std.specs.Prelude.{◌≡◌, ◌≤◌, ◌<◌, max, length, ltb, eqb};
 ghost use Rattle.basics.specs.Choice.{pick, ◌and◌};
 ghost use Rattle.vio_model.specs.Layout.{end_words, most_versions, versions_held, versions_of, session_in, session_of};
