@@ -1,0 +1,15 @@
+-- `blocks::named_block` meets its contract: what the search by halves finds is what 01 says.
+-- Assumes nothing.
+use mathlib.Core.Path.{◌∙◌}
+use Rattle.model.specs.Blocks.{named_block}
+use Rattle.model.proofs.Search.{in-order-found}
+use borrow.Author.Rules.{rules}
+use native.Mathlib.Omega.{arith}
+use Rattle.blocks.proofs.named_block.Goals as goal
+
+pub returns : goal.returns
+unfolding named_block
+returns c = c.look_for-searched.ensures.answer ∙ in-order-found _ _ _ _ _ c.before.requires
+
+pub look_for-searched-requires : goal.look_for-searched-requires
+look_for-searched-requires c = c.requires

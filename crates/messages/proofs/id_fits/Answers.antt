@@ -1,0 +1,37 @@
+-- `messages::id_fits` meets its contract: each answer refutes the test, or is its last part.
+-- Assumes nothing.
+use mathlib.Core.Path.{sym, ◌∙◌}
+use Prim.Native.Nat.{◌+◌}
+use native.Mathlib.Omega.{arith}
+use Rattle.basics.proofs.Choice.{clash}
+use Rattle.basics.proofs.Loops.{refute}
+use Rattle.messages.proofs.Rules.{zero-byte, other_byte, whole-rules, id-rules, id-last}
+use borrow.Author.Rules.{rules}
+use Rattle.messages.proofs.id_fits.Goals as goal
+
+pub returns-then-payload_len-lt13 : goal.returns-then-payload_len-lt13
+returns-then-payload_len-lt13 c = refute _ (λ t. let r = id-rules _ t in omega arith)
+
+pub returns-then-payload_len-gt1036 : goal.returns-then-payload_len-gt1036
+returns-then-payload_len-gt1036 c = refute _ (λ t. let r = id-rules _ t in omega arith)
+
+pub bounds-m-payload_len : goal.bounds-m-payload_len
+bounds-m-payload_len c =
+    let r = whole-rules _ c.before.before.before.before.requires.0 in omega arith
+
+pub returns-then-m-payload_len-ne0 : goal.returns-then-m-payload_len-ne0
+returns-then-m-payload_len-ne0 c =
+    let start = c.before.before.before.before.before in
+    let last = start.args.payload-len + 7 in
+    let other = other_byte start.args.m.now last (c.before.shared_slice_known-2-1.given last).fits c.if-m-payload_len-ne0.true in
+    refute _ (λ t. clash _ (rw start.requires.1 at other) (id-rules _ t).end)
+
+pub no_zero-requires : goal.no_zero-requires
+no_zero-requires c = let r = whole-rules _ c.before.before.before.before.before.requires.0 in omega arith
+
+pub returns : goal.returns
+returns c =
+    let start = c.before.before.before.before.before.before in
+    let last = start.args.payload-len + 7 in
+    let zero = zero-byte start.args.m.now last (c.before.before.shared_slice_known-2-1.given last).fits c.before.if-m-payload_len-ne0.false in
+    c.no_zero.ensures ∙ rw start.requires.1 (sym (id-last _ (record { low = omega arith; high = omega arith; end = rw start.requires.1 at zero })))

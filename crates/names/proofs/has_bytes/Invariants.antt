@@ -1,0 +1,21 @@
+-- `names::has_bytes` meets its contract: the words passed have the bytes, and one that differs has not.
+-- Assumes nothing.
+use mathlib.Core.Bool.{true}
+use mathlib.Core.Path.{◌≡◌, sym, ◌∙◌}
+use Prim.Native.Nat.{◌+◌, ◌*◌, ◌≤◌, ◌-◌}
+use lib.ListN.{get_or}
+use Rattle.wire.specs.BigEndian.{number_at}
+use Rattle.wire.proofs.Laws.{number_bound}
+use Rattle.basics.specs.Choice.{every}
+use Rattle.model.specs.Layout.{word_bytes}
+use Rattle.basics.proofs.Loops.{every-none, every_more, every-fails, every-all}
+use Rattle.names.specs.NameWords.{same_bytes}
+use Rattle.names.proofs.Bytes.{words_same, words-differ}
+use native.Mathlib.Omega.{arith}
+use Rattle.names.proofs.has_bytes.Given as goal
+
+abbrev pub invariant-loop-q : goal.invariant-loop-q
+invariant-loop-q l = (l.q ≤ l.n) × (every l.q (λ j. same_bytes (get_or l.words (l.from + j) 0) (number_at l.name (j * word_bytes) word_bytes)) ≡ true)
+
+abbrev pub decreases-loop-q : goal.decreases-loop-q
+decreases-loop-q l = l.n - l.q

@@ -1,0 +1,15 @@
+-- `names::has_name` meets its contract: a length that differs decides, and past it the words.
+-- Assumes nothing.
+use mathlib.Core.Path.{◌∙◌}
+use native.Mathlib.Omega.{arith}
+use Rattle.names.proofs.Names.{length-differs, same-words}
+use borrow.Author.Rules.{rules}
+use Rattle.names.proofs.has_name.Goals as goal
+
+pub returns : goal.returns
+returns c =
+    let p = c.before.before.before.before.requires in
+    c.has_bytes.ensures ∙ same-words _ _ _ p.0 p.2 _ (omega arith)
+
+pub returns-then-n-name : goal.returns-then-n-name
+returns-then-n-name c = length-differs _ _ _ _ (λ e. omega arith)

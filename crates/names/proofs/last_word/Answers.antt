@@ -1,0 +1,11 @@
+-- `names::last_word` meets its contract, by the law of a number in two parts.
+-- Assumes nothing.
+use Rattle.wire.proofs.Laws.{number-split}
+use native.Mathlib.Omega.{arith}
+use borrow.Author.Rules.{rules}
+use Rattle.names.proofs.last_word.Goals as goal
+
+pub returns : goal.returns
+returns c =
+    let args : _ = c.before.before.before.args in
+    omega (arith, number-split args.b.now args.at 4 4)

@@ -1,0 +1,11 @@
+-- `names::mixed` meets its contract: it computes what the definition says.
+-- Assumes nothing.
+use mathlib.Core.Path.{refl}
+use Rattle.names.specs.Hashes.{mixed}
+use borrow.Author.Rules.{rules}
+use native.Mathlib.Omega.{arith}
+use Rattle.names.proofs.mixed.Goals as goal
+
+pub returns : goal.returns
+unfolding mixed
+returns c = refl

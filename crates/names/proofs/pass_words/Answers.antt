@@ -1,0 +1,29 @@
+-- `names::pass_words` meets its contract: no bit is set for the words passed exactly where none of their bytes is 0, and they are mixed.
+-- Assumes nothing.
+use native.Mathlib.Omega.{arith}
+use mathlib.Core.Path.{◌≡◌, refl, ◌∙◌}
+use Prim.Native.Nat.{◌+◌, ◌≤◌, ◌-◌}
+use native.Mathlib.Numerals.{add-one}
+use lib.ListN.{get_or}
+use lib.Dec.{eqb}
+use Rattle.basics.specs.Choice.{every}
+use Rattle.names.specs.NameWords.{whole_word}
+use Rattle.names.specs.Hashes.{mixed_words}
+use Rattle.names.proofs.Zeros.{or-none}
+use borrow.Author.Rules.{rules}
+use Rattle.names.proofs.pass_words.Goals as goal
+
+pub loop-q-preserved : goal.loop-q-preserved
+unfolding every mixed_words
+loop-q-preserved c = let l = c.before.before.before.before.loop-q in
+    let z = c.before.zero_bytes-zeros in
+    (omega arith, or-none l.zeros z.result ∙ rw (l.invariant.1, z.ensures, add-one), c.mixed-hash.ensures ∙ rw (l.invariant.2, add-one))
+
+pub returns : goal.returns
+returns c = let l = c.before.loop-q in
+    let past : l.q ≡ c.before.before.before.args.n = omega (arith, l.invariant.0, c.loop-q-test.false) in
+    (l.invariant.1 ∙ rw past, l.invariant.2 ∙ rw past)
+
+pub loop-q-init : goal.loop-q-init
+unfolding every mixed_words
+loop-q-init c = (omega arith, refl, refl)

@@ -1,0 +1,18 @@
+-- `names::same_words` meets its contract: the words passed have the same bytes, and two that differ have not.
+-- Assumes nothing.
+use mathlib.Core.Bool.{true}
+use mathlib.Core.Path.{◌≡◌}
+use Prim.Native.Nat.{◌+◌, ◌≤◌, ◌-◌}
+use native.Mathlib.Omega.{arith}
+use lib.ListN.{get_or}
+use Rattle.basics.specs.Choice.{every}
+use Rattle.basics.proofs.Loops.{every-none, every_more, every-fails, every-all}
+use Rattle.names.specs.NameWords.{same_bytes}
+use Rattle.names.proofs.Bytes.{words_same, words-differ}
+use Rattle.names.proofs.same_words.Given as goal
+
+abbrev pub invariant-loop-q : goal.invariant-loop-q
+invariant-loop-q l = (l.q ≤ l.n) × (every l.q (λ j. same_bytes (get_or l.words (l.a + j) 0) (get_or l.words (l.b + j) 0)) ≡ true)
+
+abbrev pub decreases-loop-q : goal.decreases-loop-q
+decreases-loop-q l = l.n - l.q

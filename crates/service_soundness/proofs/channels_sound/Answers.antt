@@ -1,0 +1,25 @@
+-- `service_soundness::channels_sound` meets its contract: every channel passed is closed or ready.
+-- Assumes nothing.
+use mathlib.Core.Bool.{true}
+use mathlib.Core.Path.{◌≡◌}
+use Prim.Native.Nat.{◌≤◌, ◌-◌}
+use native.Mathlib.Omega.{arith}
+use lib.Dec.{leb}
+use borrow.Author.Tests.{lt-leb, le-leb}
+use Rattle.basics.specs.Choice.{every}
+use Rattle.model.specs.Layout.{ready_at, channel_count}
+use Rattle.basics.proofs.Loops.{every-none, every_more, every-fails, every-all}
+use borrow.Author.Rules.{rules}
+use Rattle.service_soundness.proofs.channels_sound.Goals as goal
+
+pub returns-then-state-c-gt1 : goal.returns-then-state-c-gt1
+returns-then-state-c-gt1 c = every-fails _ _ _ c.before.before.loop-c-test.true (lt-leb _ _ c.if-state-c-gt1.true)
+
+pub loop-c-preserved : goal.loop-c-preserved
+loop-c-preserved c = (omega arith, every_more _ _ c.before.before.before.loop-c.invariant.1 (le-leb _ _ c.if-state-c-gt1.false))
+
+pub returns : goal.returns
+returns c = every-all _ _ _ c.before.loop-c.invariant.0 c.loop-c-test.false c.before.loop-c.invariant.1
+
+pub loop-c-init : goal.loop-c-init
+loop-c-init c = (omega arith, every-none _)

@@ -1,0 +1,18 @@
+-- `service_soundness::channels_sound` meets its contract: every channel passed is closed or ready.
+-- Assumes nothing.
+use mathlib.Core.Bool.{true}
+use mathlib.Core.Path.{◌≡◌}
+use Prim.Native.Nat.{◌≤◌, ◌-◌}
+use native.Mathlib.Omega.{arith}
+use lib.Dec.{leb}
+use borrow.Author.Tests.{lt-leb, le-leb}
+use Rattle.basics.specs.Choice.{every}
+use Rattle.model.specs.Layout.{ready_at, channel_count}
+use Rattle.basics.proofs.Loops.{every-none, every_more, every-fails, every-all}
+use Rattle.service_soundness.proofs.channels_sound.Given as goal
+
+abbrev pub invariant-loop-c : goal.invariant-loop-c
+invariant-loop-c l = (l.c ≤ channel_count) × (every l.c (λ i. leb (ready_at l.state i) 1) ≡ true)
+
+abbrev pub decreases-loop-c : goal.decreases-loop-c
+decreases-loop-c l = channel_count - l.c

@@ -1,0 +1,25 @@
+use native.Mathlib.Omega.{arith}
+use mathlib.Core.Bool.{true, false, not}
+use mathlib.Core.Path.{◌≡◌, refl, sym, ◌∙◌}
+use Prim.Native.Nat.{◌≤◌, ◌-◌}
+use lib.Dec.{eqb}
+use Rattle.basics.specs.Choice.{◌or◌, every}
+use Rattle.model.specs.Layout.{stage_idle, stage_at, handle_at}
+use Rattle.basics.proofs.Loops.{every-none, every-all}
+use Rattle.basics.proofs.Choice.{clash}
+use Rattle.service_soundness.proofs.Rules.{apart-idle, apart-live, apart_more}
+use borrow.Author.Rules.{rules}
+use Rattle.service_soundness.proofs.handle_alone.Goals as goal
+
+pub loop-j-preserved : goal.loop-j-preserved
+loop-j-preserved c =
+    let start : goal.Start = search in
+    (omega arith, apart_more start.args.state.now start.args.k _ c.before.before.before.loop-j.invariant.1 c.if-state-j.false)
+
+pub returns : goal.returns
+returns c e =
+    apart-live _ _ c.before.before.before.if-state-k-eq-IDLE.false
+    ∙ sym (every-all _ _ _ c.before.loop-j.invariant.0 c.loop-j-test.false c.before.loop-j.invariant.1)
+
+pub loop-j-init : goal.loop-j-init
+loop-j-init c = (omega arith, every-none _)

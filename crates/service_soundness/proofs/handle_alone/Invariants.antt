@@ -1,0 +1,17 @@
+use native.Mathlib.Omega.{arith}
+use mathlib.Core.Bool.{true, false, not}
+use mathlib.Core.Path.{◌≡◌, refl, sym, ◌∙◌}
+use Prim.Native.Nat.{◌≤◌, ◌-◌}
+use lib.Dec.{eqb}
+use Rattle.basics.specs.Choice.{◌or◌, every}
+use Rattle.model.specs.Layout.{stage_idle, stage_at, handle_at}
+use Rattle.basics.proofs.Loops.{every-none, every-all}
+use Rattle.basics.proofs.Choice.{clash}
+use Rattle.service_soundness.proofs.Rules.{apart-idle, apart-live, apart_more}
+use Rattle.service_soundness.proofs.handle_alone.Given as goal
+
+abbrev pub invariant-loop-j : goal.invariant-loop-j
+invariant-loop-j l = (l.j ≤ l.k) × (every l.j (λ i. eqb (stage_at l.state i) stage_idle or not (eqb (handle_at l.state i) (handle_at l.state l.k))) ≡ true)
+
+abbrev pub decreases-loop-j : goal.decreases-loop-j
+decreases-loop-j l = l.k - l.j

@@ -1,0 +1,16 @@
+use native.Mathlib.Omega.{arith}
+use mathlib.Core.Bool.{true, not}
+use mathlib.Core.Path.{◌≡◌, sym, ◌∙◌}
+use Prim.Native.Nat.{◌≤◌, ◌-◌}
+use lib.Dec.{eqb}
+use Rattle.basics.specs.Choice.{◌or◌, every}
+use Rattle.model.specs.Layout.{stage_idle, stage_at, handle_at}
+use Rattle.basics.proofs.Loops.{no, yes, every-none, every_more, every-fails, every-all}
+use Rattle.service_soundness.proofs.Rules.{apart-idle, apart-live}
+use Rattle.service_soundness.proofs.handle_apart.Given as goal
+
+abbrev pub invariant-loop-j : goal.invariant-loop-j
+invariant-loop-j l = (l.j ≤ l.k) × (every l.j (λ i. eqb (stage_at l.state i) stage_idle or not (eqb (handle_at l.state i) (handle_at l.state l.k))) ≡ true)
+
+abbrev pub decreases-loop-j : goal.decreases-loop-j
+decreases-loop-j l = l.k - l.j

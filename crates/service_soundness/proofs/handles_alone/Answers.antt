@@ -1,0 +1,23 @@
+-- `service_soundness::handles_alone` meets its contract: no handle passed stands before it.
+-- Assumes nothing.
+use mathlib.Core.Bool.{true, false}
+use mathlib.Core.Path.{◌≡◌, refl, sym}
+use Prim.Native.Nat.{◌≤◌, ◌-◌}
+use native.Mathlib.Omega.{arith}
+use Rattle.basics.specs.Choice.{every}
+use Rattle.model.specs.State.{handle_apart}
+use Rattle.basics.proofs.Loops.{every-none, every_more, every-all}
+use Rattle.basics.proofs.Choice.{clash}
+use borrow.Author.Tests.{not-false}
+use Rattle.model.specs.Layout.{place_count}
+use borrow.Author.Rules.{rules}
+use Rattle.service_soundness.proofs.handles_alone.Goals as goal
+
+pub loop-k-preserved : goal.loop-k-preserved
+loop-k-preserved c = (omega arith, every_more _ _ c.before.before.before.loop-k.invariant.1 (c.before.handle_alone.ensures (not-false _ c.if-not-handle_alone.false)))
+
+pub returns : goal.returns
+returns c e = sym (every-all _ _ _ c.before.loop-k.invariant.0 c.loop-k-test.false c.before.loop-k.invariant.1)
+
+pub loop-k-init : goal.loop-k-init
+loop-k-init c = (omega arith, every-none _)

@@ -1,0 +1,19 @@
+-- `service_soundness::handles_alone` meets its contract: no handle passed stands before it.
+-- Assumes nothing.
+use mathlib.Core.Bool.{true, false}
+use mathlib.Core.Path.{◌≡◌, refl, sym}
+use Prim.Native.Nat.{◌≤◌, ◌-◌}
+use native.Mathlib.Omega.{arith}
+use Rattle.basics.specs.Choice.{every}
+use Rattle.model.specs.State.{handle_apart}
+use Rattle.basics.proofs.Loops.{every-none, every_more, every-all}
+use Rattle.basics.proofs.Choice.{clash}
+use borrow.Author.Tests.{not-false}
+use Rattle.model.specs.Layout.{place_count}
+use Rattle.service_soundness.proofs.handles_alone.Given as goal
+
+abbrev pub invariant-loop-k : goal.invariant-loop-k
+invariant-loop-k l = (l.k ≤ place_count) × (every l.k (λ i. handle_apart l.state i) ≡ true)
+
+abbrev pub decreases-loop-k : goal.decreases-loop-k
+decreases-loop-k l = place_count - l.k

@@ -1,0 +1,24 @@
+-- `service_soundness::live_handles_apart` meets its contract: every handle passed differs from those before it.
+-- Assumes nothing.
+use mathlib.Core.Bool.{true}
+use mathlib.Core.Path.{◌≡◌}
+use Prim.Native.Nat.{◌≤◌, ◌-◌}
+use native.Mathlib.Omega.{arith}
+use Rattle.basics.specs.Choice.{every}
+use Rattle.model.specs.State.{handle_apart}
+use Rattle.basics.proofs.Loops.{no, yes, every-none, every_more, every-fails, every-all}
+use Rattle.model.specs.Layout.{place_count}
+use borrow.Author.Rules.{rules}
+use Rattle.service_soundness.proofs.live_handles_apart.Goals as goal
+
+pub returns-then-not-handle_apart : goal.returns-then-not-handle_apart
+returns-then-not-handle_apart c = every-fails _ _ _ c.before.before.loop-k-test.true (no _ c.before.handle_apart.ensures c.if-not-handle_apart.true)
+
+pub loop-k-preserved : goal.loop-k-preserved
+loop-k-preserved c = (omega arith, every_more _ _ c.before.before.before.loop-k.invariant.1 (yes _ c.before.handle_apart.ensures c.if-not-handle_apart.false))
+
+pub returns : goal.returns
+returns c = every-all _ _ _ c.before.loop-k.invariant.0 c.loop-k-test.false c.before.loop-k.invariant.1
+
+pub loop-k-init : goal.loop-k-init
+loop-k-init c = (omega arith, every-none _)

@@ -1,0 +1,17 @@
+-- `service_soundness::live_handles_apart` meets its contract: every handle passed differs from those before it.
+-- Assumes nothing.
+use mathlib.Core.Bool.{true}
+use mathlib.Core.Path.{◌≡◌}
+use Prim.Native.Nat.{◌≤◌, ◌-◌}
+use native.Mathlib.Omega.{arith}
+use Rattle.basics.specs.Choice.{every}
+use Rattle.model.specs.State.{handle_apart}
+use Rattle.basics.proofs.Loops.{no, yes, every-none, every_more, every-fails, every-all}
+use Rattle.model.specs.Layout.{place_count}
+use Rattle.service_soundness.proofs.live_handles_apart.Given as goal
+
+abbrev pub invariant-loop-k : goal.invariant-loop-k
+invariant-loop-k l = (l.k ≤ place_count) × (every l.k (λ i. handle_apart l.state i) ≡ true)
+
+abbrev pub decreases-loop-k : goal.decreases-loop-k
+decreases-loop-k l = place_count - l.k

@@ -1,0 +1,17 @@
+-- `service_soundness::services_sound` meets its contract: every service passed is sound.
+-- Assumes nothing.
+use mathlib.Core.Bool.{true}
+use mathlib.Core.Path.{◌≡◌}
+use Prim.Native.Nat.{◌≤◌, ◌-◌}
+use native.Mathlib.Omega.{arith}
+use Rattle.basics.specs.Choice.{every}
+use Rattle.model.specs.State.{service_sound_at}
+use Rattle.basics.proofs.Loops.{no, yes, every-none, every_more, every-fails, every-all}
+use Rattle.model.specs.Layout.{place_count}
+use Rattle.service_soundness.proofs.services_sound.Given as goal
+
+abbrev pub invariant-loop-k : goal.invariant-loop-k
+invariant-loop-k l = (l.k ≤ place_count) × (every l.k (λ i. service_sound_at l.state i) ≡ true)
+
+abbrev pub decreases-loop-k : goal.decreases-loop-k
+decreases-loop-k l = place_count - l.k
