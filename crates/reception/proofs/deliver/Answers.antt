@@ -13,12 +13,8 @@ use Rattle.reception.proofs.deliver.Lts as lts
 use Rattle.reception.proofs.deliver.Reads as reads
 use Rattle.reception.proofs.deliver.Tie as tie
 
--- where the way is that of orders
-to-orders : (c : (lts.After-enum_told3 tie.the-claims reads.Pre reads.Post)) → route c.args.service ≡ Orders
-to-orders c = sym c.route-route.ensures ∙ c.enum_told-in-Orders-1.given.1
-
 pub answer-requires-in-Orders : goal.answer-requires-in-Orders
-answer-requires-in-Orders c = let v = orders-services _ (to-orders (search)) in (omega arith, omega arith, search rules)
+answer-requires-in-Orders c = let v = orders-services _ (sym c.route-route.ensures ∙ c.in-Orders.is) in (omega arith, omega arith, search rules)
 
 pub returns-in-Memory : goal.returns-in-Memory
 unfolding data_for routed
@@ -30,7 +26,7 @@ returns-in-Devices c = rw (sym c.route-route.ensures ∙ c.in-Devices.is) c.answ
 
 pub returns-in-Orders : goal.returns-in-Orders
 unfolding data_for routed
-returns-in-Orders c = rw (to-orders (search)) c.answer-in-Orders.ensures
+returns-in-Orders c = rw (sym c.route-route.ensures ∙ c.in-Orders.is) c.answer-in-Orders.ensures
 
 pub returns-in-Host : goal.returns-in-Host
 unfolding data_for routed written
