@@ -16,7 +16,7 @@ use model::{
 };
 
 // A row of the table of services: the id with its zero and more zeros after it, its length with the one zero, and the version.
-#[derive(Drop)]
+#[derive(Clone, Copy)]
 struct Row {
     id: [u8; 16],
     length: usize,

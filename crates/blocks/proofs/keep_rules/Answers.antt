@@ -1,5 +1,7 @@
 -- `blocks::keep_rules` meets its contract: every block passed keeps the rules, and the floor is the end of the last of them.
 -- Assumes nothing.
+use mathlib.Core.Path.{ap}
+use mathlib.Core.Bool.{not}
 use mathlib.Core.Bool.{true}
 use mathlib.Core.Path.{◌≡◌, refl}
 use Prim.Native.Nat.{◌≤◌, ◌-◌}
@@ -12,30 +14,28 @@ use Rattle.model.specs.Layout.{block_in}
 use Rattle.basics.proofs.Loops.{no, yes, every-none, every_more, every-fails, every-all}
 use borrow.Author.Rules.{rules}
 use Rattle.blocks.proofs.keep_rules.Goals as goal
-use Rattle.blocks.proofs.keep_rules.Lts as lts
-use Rattle.blocks.proofs.keep_rules.Reads as reads
 
 pub returns-then-not-block_keeps : goal.returns-then-not-block_keeps
 unfolding block_in
 returns-then-not-block_keeps c =
-    let t : goal.In-loop-i = search in
-    every-fails _ _ _ t.loop-i-test.taken
-    (rw (← t.before.loop-i.inv.1) (no _ c.before.block_keeps.ensures c.if-not-block_keeps.true))
+    let t = c.before.before.before.before.before.before.before in
+    every-fails _ _ _ t.loop-i-test.true
+    (rw (← t.before.loop-i.invariant.1) (no _ c.before.block_keeps.ensures (ap not c.if-not-block_keeps.true)))
 
 pub overflow_mul-floor : goal.overflow_mul-floor
-overflow_mul-floor c = let r = (block-rules _ _ (yes _ c.before.block_keeps.ensures c.if-not-block_keeps.false)).0 in omega arith
+overflow_mul-floor c = let r = (block-rules _ _ (yes _ c.before.block_keeps.ensures (ap not c.if-not-block_keeps.false))).0 in omega arith
 
 pub overflow_add-floor : goal.overflow_add-floor
-overflow_add-floor c = let r = (block-rules _ _ (yes _ c.before.block_keeps.ensures c.if-not-block_keeps.false)).0 in omega arith
+overflow_add-floor c = let r = (block-rules _ _ (yes _ c.before.block_keeps.ensures (ap not c.if-not-block_keeps.false))).0 in omega arith
 
 pub loop-i-preserved : goal.loop-i-preserved
 unfolding block_in end_before
 loop-i-preserved c =
-    let t : (lts.At-loop reads.Pre reads.Post) = search in
+    let t = c.before.before.before.before.before.before.before.before in
     let l = t.loop-i in (
       omega arith,
       rw (add-one l.i),
-      every_more _ _ l.inv.2 (rw (← l.inv.1) (yes _ c.before.block_keeps.ensures c.if-not-block_keeps.false)),
+      every_more _ _ l.invariant.2 (rw (← l.invariant.1) (yes _ c.before.block_keeps.ensures (ap not c.if-not-block_keeps.false))),
     )
 
 pub returns : goal.returns

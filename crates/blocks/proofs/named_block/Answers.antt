@@ -9,7 +9,7 @@ use Rattle.blocks.proofs.named_block.Goals as goal
 
 pub returns : goal.returns
 unfolding named_block
-returns c = c.look_for-searched.ensures.answer ∙ in-order-found _ _ _ _ _ c.before.requires
+returns c = c.look_for-searched.ensures.answer ∙ in-order-found _ _ _ _ _ c.requires
 
 pub look_for-searched-requires : goal.look_for-searched-requires
 look_for-searched-requires c = c.requires

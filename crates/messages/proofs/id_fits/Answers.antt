@@ -17,21 +17,21 @@ returns-then-payload_len-gt1036 c = refute _ (λ t. let r = id-rules _ t in omeg
 
 pub bounds-m-payload_len : goal.bounds-m-payload_len
 bounds-m-payload_len c =
-    let r = whole-rules _ c.before.before.before.before.requires.0 in omega arith
+    let r = whole-rules _ c.requires.0 in omega arith
 
 pub returns-then-m-payload_len-ne0 : goal.returns-then-m-payload_len-ne0
 returns-then-m-payload_len-ne0 c =
-    let start = c.before.before.before.before.before in
-    let last = start.args.payload-len + 7 in
-    let other = other_byte start.args.m.now last (c.before.shared_slice_known-2-1.given last).fits c.if-m-payload_len-ne0.true in
-    refute _ (λ t. clash _ (rw start.requires.1 at other) (id-rules _ t).end)
+    
+    let last = c.args.payload_len + 7 in
+    let other = other_byte c.args.m.now last (c.shared_slice_known-2-1.given last).fits c.if-m-payload_len-ne0.true in
+    refute _ (λ t. clash _ (rw c.requires.1 at other) (id-rules _ t).end)
 
 pub no_zero-requires : goal.no_zero-requires
-no_zero-requires c = let r = whole-rules _ c.before.before.before.before.before.requires.0 in omega arith
+no_zero-requires c = let r = whole-rules _ c.requires.0 in omega arith
 
 pub returns : goal.returns
 returns c =
-    let start = c.before.before.before.before.before.before in
-    let last = start.args.payload-len + 7 in
-    let zero = zero-byte start.args.m.now last (c.before.before.shared_slice_known-2-1.given last).fits c.before.if-m-payload_len-ne0.false in
-    c.no_zero.ensures ∙ rw start.requires.1 (sym (id-last _ (record { low = omega arith; high = omega arith; end = rw start.requires.1 at zero })))
+    
+    let last = c.args.payload_len + 7 in
+    let zero = zero-byte c.args.m.now last (c.shared_slice_known-2-1.given last).fits c.if-m-payload_len-ne0.false in
+    c.no_zero.ensures ∙ rw c.requires.1 (sym (id-last _ (record { low = omega arith; high = omega arith; end = rw c.requires.1 at zero })))

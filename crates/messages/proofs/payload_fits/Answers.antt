@@ -9,38 +9,38 @@ use borrow.Author.Rules.{rules}
 use Rattle.messages.proofs.payload_fits.Goals as goal
 
 pub get32-message_type-requires : goal.get32-message_type-requires
-get32-message_type-requires c = let w = whole-rules _ c.before.requires in omega arith
+get32-message_type-requires c = let w = whole-rules _ c.requires in omega arith
 
 pub get32-payload_len-requires : goal.get32-payload_len-requires
-get32-payload_len-requires c = let w = whole-rules _ c.before.before.requires in omega arith
+get32-payload_len-requires c = let w = whole-rules _ c.requires in omega arith
 
 pub returns-in-0 : goal.returns-in-0
 unfolding payload_fits pick
-returns-in-0 c = rw (c.before.get32-payload_len.ensures.0, sym c.before.before.get32-message_type.ensures.0 ∙ c.in-0.keys1)
+returns-in-0 c = rw (c.get32-payload_len.ensures.0, sym c.get32-message_type.ensures.0 ∙ c.in-0.is)
 
 pub returns-in-3 : goal.returns-in-3
 unfolding payload_fits pick
-returns-in-3 c = rw (sym c.before.before.before.get32-message_type.ensures.0 ∙ c.before.in-0.keys2) c.id_fits.ensures
+returns-in-3 c = rw (sym c.get32-message_type.ensures.0 ∙ c.in-3.is) c.id_fits.ensures
 
 pub returns-in-4 : goal.returns-in-4
 unfolding payload_fits pick
-returns-in-4 c = rw (c.before.get32-payload_len.ensures.0, sym c.before.before.get32-message_type.ensures.0 ∙ c.in-0.keys3)
+returns-in-4 c = rw (c.get32-payload_len.ensures.0, sym c.get32-message_type.ensures.0 ∙ c.in-4.is)
 
 pub returns-in-5 : goal.returns-in-5
 unfolding payload_fits pick
-returns-in-5 c = rw (c.before.get32-payload_len.ensures.0, sym c.before.before.get32-message_type.ensures.0 ∙ c.in-0.keys4)
+returns-in-5 c = rw (c.get32-payload_len.ensures.0, sym c.get32-message_type.ensures.0 ∙ c.in-5.is)
 
 pub returns-in-9 : goal.returns-in-9
 unfolding payload_fits pick
-returns-in-9 c = rw (c.before.get32-payload_len.ensures.0, sym c.before.before.get32-message_type.ensures.0 ∙ c.in-0.keys5)
+returns-in-9 c = rw (c.get32-payload_len.ensures.0, sym c.get32-message_type.ensures.0 ∙ c.in-9.is)
 
 pub returns-in-10 : goal.returns-in-10
 unfolding payload_fits pick
-returns-in-10 c = rw (c.before.get32-payload_len.ensures.0, sym c.before.before.get32-message_type.ensures.0 ∙ c.in-0.keys6)
+returns-in-10 c = rw (c.get32-payload_len.ensures.0, sym c.get32-message_type.ensures.0 ∙ c.in-10.is)
 
 pub returns-in-6 : goal.returns-in-6
 returns-in-6 c =
-    let c₃ : _ = c.before.before.before in rw c₃.get32-payload_len.ensures.0 (sym (unreg-fits _ (omega arith) (omega arith)))
+    rw c.get32-payload_len.ensures.0 (sym (unreg-fits _ (omega arith) (omega arith)))
 
 pub returns-in_default : goal.returns-in_default
 returns-in_default c = no-type _ (λ e. omega arith) (λ l h. omega arith)

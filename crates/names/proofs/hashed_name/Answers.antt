@@ -14,10 +14,11 @@ use borrow.Author.Rules.{rules}
 use Rattle.names.proofs.hashed_name.Goals as goal
 use Rattle.names.proofs.hashed_name.Lts as lts
 use Rattle.names.proofs.hashed_name.Reads as reads
+use Rattle.names.proofs.hashed_name.Tie as tie
 
 -- the name has a byte
-some : (c : (lts.After-pass_words reads.Pre reads.Post)) → 1 ≤ c.before.before.before.before.args.n
-some c = omega (arith, c.before.before.if-n-eq0.false)
+some : (c : (lts.After-pass_words tie.the-claims reads.Pre reads.Post)) → 1 ≤ c.args.n
+some c = omega (arith, c.if-n-eq0.false)
 
 pub returns-then-n-eq0 : goal.returns-then-n-eq0
 returns-then-n-eq0 c = (refute _ (λ t. let r = name-rules _ _ _ _ t in omega arith), λ t. absurd (clash _ refl t))
@@ -26,12 +27,12 @@ pub returns-then-n-most : goal.returns-then-n-most
 returns-then-n-most c = (refute _ (λ t. let r = name-rules _ _ _ _ t in omega arith), λ t. absurd (clash _ refl t))
 
 pub returns-then-passed-ne0 : goal.returns-then-passed-ne0
-returns-then-passed-ne0 c = let p = c.before.before in
-    (sym (and-false _ _ (sym p.pass_words-passed.ensures.0 ∙ ne_eqb _ 0 c.if-passed-ne0.true)) ∙ name-words _ _ _ _ (some p) p.before.if-n-most.false, λ t. absurd (clash _ refl t))
+returns-then-passed-ne0 c = 
+    (sym (and-false _ _ (sym c.pass_words-passed.ensures.0 ∙ ne_eqb _ 0 c.if-passed-ne0.true)) ∙ name-words _ _ _ _ (some (search)) c.if-n-most.false, λ t. absurd (clash _ refl t))
 
 pub returns : goal.returns
 unfolding hash_of mixed_words
-returns c = let e = c.before.before.before in
-    let p = e.before.before in
-    let passed = p.pass_words-passed.ensures in
-    (c.before.last_word_keeps-keeps.ensures ∙ sym (and-next _ _ (sym passed.0 ∙ eq-eqb _ 0 e.if-passed-ne0.false)) ∙ name-words _ _ _ _ (some p) p.before.if-n-most.false, λ t. c.mixed-hash.ensures ∙ rw (passed.1, add-one))
+returns c = 
+    
+    let passed = c.pass_words-passed.ensures in
+    (c.last_word_keeps-keeps.ensures ∙ sym (and-next _ _ (sym passed.0 ∙ eq-eqb _ 0 c.if-passed-ne0.false)) ∙ name-words _ _ _ _ (some (search)) c.if-n-most.false, λ t. c.mixed-hash.ensures ∙ rw (passed.1, add-one))

@@ -1,5 +1,7 @@
 -- `names::holds_name` meets its contract: a length out of bounds breaks the rules, and past it the words decide.
 -- Assumes nothing.
+use mathlib.Core.Path.{ap}
+use mathlib.Core.Bool.{not}
 use mathlib.Core.Path.{sym, ◌∙◌}
 use Rattle.basics.proofs.Choice.{and-false}
 use Rattle.basics.proofs.Loops.{refute, no, yes}
@@ -18,7 +20,7 @@ returns-then-most-n c = refute _ (λ t. let r = name-rules _ _ _ _ t in omega ar
 pub returns-then-not-whole_words : goal.returns-then-not-whole_words
 returns-then-not-whole_words c =
     let w = c.before in
-    sym (and-false _ _ (no _ w.whole_words.ensures c.if-not-whole_words.true))
+    sym (and-false _ _ (no _ w.whole_words.ensures (ap not c.if-not-whole_words.true)))
     ∙ name-words _ _ _ _ w.before.before.if-n-lt1.false w.before.if-most-n.false
 
 pub returns : goal.returns
@@ -26,5 +28,5 @@ returns c =
     let e = c.before.before in
     let w = e.before in
     c.last_word_keeps.ensures
-    ∙ sym (and-next _ _ (yes _ w.whole_words.ensures e.if-not-whole_words.false))
+    ∙ sym (and-next _ _ (yes _ w.whole_words.ensures (ap not e.if-not-whole_words.false)))
     ∙ name-words _ _ _ _ w.before.before.if-n-lt1.false w.before.if-most-n.false

@@ -1,3 +1,4 @@
+use mathlib.Core.Path.{ap}
 use native.Mathlib.Omega.{arith}
 use mathlib.Core.Bool.{true, not}
 use mathlib.Core.Path.{◌≡◌, sym, ◌∙◌}
@@ -11,15 +12,15 @@ use borrow.Author.Rules.{rules}
 use Rattle.service_soundness.proofs.handle_apart.Goals as goal
 
 pub returns-then-not-differs : goal.returns-then-not-differs
-returns-then-not-differs c = every-fails _ _ _ c.before.before.loop-j-test.true (no _ c.before.differs.ensures c.if-not-differs.true)
-    ∙ sym (apart-live _ _ c.before.before.before.before.before.if-state-k-eq-IDLE.false)
+returns-then-not-differs c = every-fails _ _ _ c.loop-j-test.true (no _ c.differs.ensures (ap not c.if-not-differs.true))
+    ∙ sym (apart-live _ _ c.if-state-k-eq-IDLE.false)
 
 pub loop-j-preserved : goal.loop-j-preserved
-loop-j-preserved c = (omega arith, every_more _ _ c.before.before.before.loop-j.invariant.1 (yes _ c.before.differs.ensures c.if-not-differs.false))
+loop-j-preserved c = (omega arith, every_more _ _ c.loop-j.invariant.1 (yes _ c.differs.ensures (ap not c.if-not-differs.false)))
 
 pub returns : goal.returns
-returns c = every-all _ _ _ c.before.loop-j.invariant.0 c.loop-j-test.false c.before.loop-j.invariant.1
-    ∙ sym (apart-live _ _ c.before.before.before.if-state-k-eq-IDLE.false)
+returns c = every-all _ _ _ c.loop-j.invariant.0 c.loop-j-test.false c.loop-j.invariant.1
+    ∙ sym (apart-live _ _ c.if-state-k-eq-IDLE.false)
 
 pub returns-then-state-k-eq-IDLE : goal.returns-then-state-k-eq-IDLE
 returns-then-state-k-eq-IDLE c = sym (apart-idle _ _ c.if-state-k-eq-IDLE.true)

@@ -1,5 +1,7 @@
 -- `service_soundness::handles_alone` meets its contract: no handle passed stands before it.
 -- Assumes nothing.
+use mathlib.Core.Path.{ap}
+use mathlib.Core.Bool.{not}
 use mathlib.Core.Bool.{true, false}
 use mathlib.Core.Path.{◌≡◌, refl, sym}
 use Prim.Native.Nat.{◌≤◌, ◌-◌}
@@ -14,10 +16,13 @@ use borrow.Author.Rules.{rules}
 use Rattle.service_soundness.proofs.handles_alone.Goals as goal
 
 pub loop-k-preserved : goal.loop-k-preserved
-loop-k-preserved c = (omega arith, every_more _ _ c.before.before.before.loop-k.invariant.1 (c.before.handle_alone.ensures (not-false _ c.if-not-handle_alone.false)))
+loop-k-preserved c = (omega arith, every_more _ _ c.loop-k.invariant.1 (c.handle_alone.ensures (not-false _ (ap not c.if-not-handle_alone.false))))
 
 pub returns : goal.returns
-returns c e = sym (every-all _ _ _ c.before.loop-k.invariant.0 c.loop-k-test.false c.before.loop-k.invariant.1)
+returns c e = sym (every-all _ _ _ c.loop-k.invariant.0 c.loop-k-test.false c.loop-k.invariant.1)
 
 pub loop-k-init : goal.loop-k-init
 loop-k-init c = (omega arith, every-none _)
+
+pub returns-then-not-handle_alone : goal.returns-then-not-handle_alone
+returns-then-not-handle_alone c e = absurd (clash false refl e)

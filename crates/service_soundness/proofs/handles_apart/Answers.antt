@@ -6,7 +6,7 @@ use native.Mathlib.Omega.{arith}
 use Rattle.service_soundness.proofs.handles_apart.Goals as goal
 
 pub returns-then-handles_alone : goal.returns-then-handles_alone
-returns-then-handles_alone c = sym (c.before.handles_alone.ensures c.if-handles_alone.true)
+returns-then-handles_alone c = sym (c.handles_alone.ensures c.if-handles_alone.true)
 
 pub returns : goal.returns
 returns c = c.live_handles_apart.ensures

@@ -1,5 +1,7 @@
 -- `service_soundness::live_handles_apart` meets its contract: every handle passed differs from those before it.
 -- Assumes nothing.
+use mathlib.Core.Path.{ap}
+use mathlib.Core.Bool.{not}
 use mathlib.Core.Bool.{true}
 use mathlib.Core.Path.{◌≡◌}
 use Prim.Native.Nat.{◌≤◌, ◌-◌}
@@ -12,13 +14,13 @@ use borrow.Author.Rules.{rules}
 use Rattle.service_soundness.proofs.live_handles_apart.Goals as goal
 
 pub returns-then-not-handle_apart : goal.returns-then-not-handle_apart
-returns-then-not-handle_apart c = every-fails _ _ _ c.before.before.loop-k-test.true (no _ c.before.handle_apart.ensures c.if-not-handle_apart.true)
+returns-then-not-handle_apart c = every-fails _ _ _ c.loop-k-test.true (no _ c.handle_apart.ensures (ap not c.if-not-handle_apart.true))
 
 pub loop-k-preserved : goal.loop-k-preserved
-loop-k-preserved c = (omega arith, every_more _ _ c.before.before.before.loop-k.invariant.1 (yes _ c.before.handle_apart.ensures c.if-not-handle_apart.false))
+loop-k-preserved c = (omega arith, every_more _ _ c.loop-k.invariant.1 (yes _ c.handle_apart.ensures (ap not c.if-not-handle_apart.false)))
 
 pub returns : goal.returns
-returns c = every-all _ _ _ c.before.loop-k.invariant.0 c.loop-k-test.false c.before.loop-k.invariant.1
+returns c = every-all _ _ _ c.loop-k.invariant.0 c.loop-k-test.false c.loop-k.invariant.1
 
 pub loop-k-init : goal.loop-k-init
 loop-k-init c = (omega arith, every-none _)

@@ -1,0 +1,10 @@
+-- `services::minor` meets its contract, by the table's rule.
+-- Assumes nothing.
+use mathlib.Core.Path.{ap}
+use Rattle.model.specs.Messages.{Service}
+use borrow.Author.Rules.{rules}
+use native.Mathlib.Omega.{arith}
+use Rattle.services.proofs.minor.Goals as goal
+
+pub returns : goal.returns
+returns c = ap (λ (s : Service). s.minor) c.row_of-row.ensures.same

@@ -1,0 +1,10 @@
+-- `services::put_init_nack` meets its contract, by that of `put_version`.
+-- Assumes nothing.
+use Rattle.model.specs.Messages.{init_nack}
+use borrow.Author.Rules.{rules}
+use native.Mathlib.Omega.{arith}
+use Rattle.services.proofs.put_init_nack.Goals as goal
+
+pub returns : goal.returns
+unfolding init_nack
+returns c = search rules

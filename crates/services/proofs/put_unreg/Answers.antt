@@ -1,0 +1,10 @@
+-- `services::put_unreg` meets its contract, by that of `put_handle`.
+-- Assumes nothing.
+use Rattle.model.specs.Messages.{unreg}
+use borrow.Author.Rules.{rules}
+use native.Mathlib.Omega.{arith}
+use Rattle.services.proofs.put_unreg.Goals as goal
+
+pub returns : goal.returns
+unfolding unreg
+returns c = search rules
