@@ -24,7 +24,7 @@ pub type FrontWords = [u64; FRONT_WORDS];
 pub type FrontBytes = [u8; FRONT_BYTES];
 
 // The answer to a piece: the refusal; how many bytes were taken; whether a message was given to the agent; the reply's length.
-#[derive(Drop)]
+#[derive(Clone, Copy)]
 pub struct Piece {
     pub refusal: u64,
     pub taken: usize,

@@ -79,7 +79,7 @@ fn mixed(hash: u64, word: u64) -> u64
 }
 
 // The top bits of the bytes that are 0, of all words passed, and the words mixed.
-#[derive(Drop)]
+#[derive(Clone, Copy)]
 struct Passed {
     zeros: u64,
     hash: u64,
@@ -103,7 +103,7 @@ fn pass_words(words: &[u64], from: usize, n: usize, first: u64) -> Passed
 }
 
 // Whether words hold a name, and the hash of it; of what is no name the hash says nothing.
-#[derive(Drop)]
+#[derive(Clone, Copy)]
 pub struct Hashed {
     pub keeps: bool,
     pub hash: u64,

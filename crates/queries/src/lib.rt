@@ -14,7 +14,7 @@ use basics::Found;
 use model::{DR_MEM_OK, Handled, MEMORY_SERVICE, QUERY_BYTES, REPLY_HEADER_BYTES, State};
 
 // The permanent pages of a pair: how many bytes, and where they begin.
-#[derive(Drop)]
+#[derive(Clone, Copy)]
 struct Range {
     bytes: u64,
     first: u64,

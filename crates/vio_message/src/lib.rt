@@ -6,7 +6,7 @@ ghost use Rattle.std.specs.Prelude.{◌≡◌};
 ghost use Rattle.vio_message.specs.Words.{InRange, packed, unpacked};
 
 // The fields of the two words. `kind` is the type, which is a reserved word; the reserved bits are no field.
-#[derive(Drop)]
+#[derive(Clone, Copy)]
 pub struct Message {
     pub session: u64,
     pub envelope: u64,
@@ -17,7 +17,7 @@ pub struct Message {
     pub major: u64,
 }
 
-#[derive(Drop)]
+#[derive(Clone, Copy)]
 pub struct Words {
     pub first: u64,
     pub second: u64,

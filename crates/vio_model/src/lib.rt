@@ -58,7 +58,7 @@ pub const NACK: u64 = 0x04;
 pub const VER_INFO: u64 = 0x0001;
 
 // An end's session: nothing; an open request; a version agreed; or a try of its own that ended without a version.
-#[derive(Drop)]
+#[derive(Clone, Copy)]
 pub enum Session {
     Nothing,
     Asked { id: u64, major: u64, minor: u64 },
@@ -67,7 +67,7 @@ pub enum Session {
 }
 
 // What a message does: nothing; a session without an answer; or a session and a message sent.
-#[derive(Drop)]
+#[derive(Clone, Copy)]
 pub enum Effect {
     Ignored,
     Becomes(Session),
@@ -76,7 +76,7 @@ pub enum Effect {
 
 // The answer of setup: 0 or 7, and the end.
 #[repr(C)]
-#[derive(Drop)]
+#[derive(Clone, Copy)]
 pub struct Ready {
     pub refusal: u64,
     pub end: End,
@@ -84,7 +84,7 @@ pub struct Ready {
 
 // The answer of start and receive: 0 or 8, the number of words sent (0 or 2), and these words.
 #[repr(C)]
-#[derive(Drop)]
+#[derive(Clone, Copy)]
 pub struct Answer {
     pub refusal: u64,
     pub count: u64,

@@ -1,0 +1,13 @@
+-- `device_list::all_apart` meets its contract: where the ids rise no two devices are alike.
+-- Assumes nothing.
+use mathlib.Core.Path.{sym, ◌∙◌}
+use Rattle.device_list.proofs.Rising.{rising-apart}
+use borrow.Author.Rules.{rules}
+use native.Mathlib.Omega.{arith}
+use Rattle.device_list.proofs.all_apart.Goals as goal
+
+pub returns-then-ids_rise : goal.returns-then-ids_rise
+returns-then-ids_rise c = sym (rising-apart _ _ _ (sym c.ids_rise.ensures ∙ c.if-ids_rise.true))
+
+pub returns : goal.returns
+returns c = c.each_apart.ensures

@@ -1,0 +1,11 @@
+-- `device_list::configured_of` meets its contract: the word that it reads is the field.
+-- Assumes nothing.
+use mathlib.Core.Path.{refl}
+use Rattle.model.specs.Layout.{device_in}
+use native.Mathlib.Omega.{arith}
+use borrow.Author.Rules.{rules}
+use Rattle.device_list.proofs.configured_of.Goals as goal
+
+pub returns : goal.returns
+unfolding device_in
+returns c = refl

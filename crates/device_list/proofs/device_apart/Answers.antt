@@ -1,0 +1,13 @@
+-- `device_list::device_apart` meets its contract: devices whose ids differ are apart.
+-- Assumes nothing.
+use mathlib.Core.Path.{sym, ◌∙◌}
+use Rattle.device_list.proofs.Rising.{ids-apart}
+use borrow.Author.Rules.{rules}
+use native.Mathlib.Omega.{arith}
+use Rattle.device_list.proofs.device_apart.Goals as goal
+
+pub returns-then-id_apart : goal.returns-then-id_apart
+returns-then-id_apart c = sym (ids-apart _ _ _ (sym c.id_apart.ensures ∙ c.if-id_apart.true))
+
+pub returns : goal.returns
+returns c = c.name_apart.ensures

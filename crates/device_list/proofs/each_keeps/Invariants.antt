@@ -1,0 +1,16 @@
+-- `device_list::each_keeps` meets its contract: every device passed keeps the rules.
+-- Assumes nothing.
+use mathlib.Core.Bool.{true}
+use mathlib.Core.Path.{◌≡◌}
+use Prim.Native.Nat.{◌≤◌, ◌-◌}
+use native.Mathlib.Omega.{arith}
+use Rattle.basics.specs.Choice.{every}
+use Rattle.model.specs.Devices.{device_keeps}
+use Rattle.basics.proofs.Loops.{no, yes, every-none, every_more, every-fails, every-all}
+use Rattle.device_list.proofs.each_keeps.Given as goal
+
+abbrev pub invariant-loop-i : goal.invariant-loop-i
+invariant-loop-i l = (l.i ≤ l.n) × (every l.i (device_keeps l.words l.at) ≡ true)
+
+abbrev pub decreases-loop-i : goal.decreases-loop-i
+decreases-loop-i l = l.n - l.i

@@ -1,0 +1,19 @@
+-- `device_list::ids_rise` meets its contract: each id passed is below the next.
+-- Assumes nothing.
+use mathlib.Core.Path.{◌≡◌, refl, sym, ◌∙◌}
+use Prim.Native.Nat.{◌+◌, ◌*◌, ◌≤◌, ◌-◌}
+use native.Mathlib.Omega.{arith}
+use lib.ListN.{get_or}
+use lib.Dec.{ltb}
+use Rattle.basics.specs.Choice.{every}
+use Rattle.model.specs.Layout.{device_words}
+use Rattle.device_list.specs.Rising.{ids_rise}
+use Rattle.names.proofs.Bytes.{both-pass}
+use Rattle.device_list.proofs.Rising.{every-next}
+use Rattle.device_list.proofs.ids_rise.Given as goal
+
+abbrev pub invariant-loop-j : goal.invariant-loop-j
+invariant-loop-j l = (l.j ≤ l.n - 1) × (l.rise ≡ every l.j (λ k. ltb (get_or l.words (l.at + k * device_words) 0) (get_or l.words (l.at + (k + 1) * device_words) 0)))
+
+abbrev pub decreases-loop-j : goal.decreases-loop-j
+decreases-loop-j l = l.n - l.j

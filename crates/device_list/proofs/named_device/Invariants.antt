@@ -1,0 +1,16 @@
+-- `device_list::named_device` meets its contract: the id and the name name no device passed.
+-- Assumes nothing.
+use mathlib.Core.Path.{sym, ◌∙◌}
+use Prim.Native.Nat.{◌≤◌, ◌-◌}
+use Rattle.model.specs.Devices.{is_device, named_device}
+use Rattle.model.specs.Layout.{device_in, first_device_word}
+use Rattle.basics.proofs.Loops.{NoneBelow, none_first, none_more, found_here, found_nowhere}
+use Rattle.device_list.proofs.Names.{devices-few, devices-each, keeps-name}
+use native.Mathlib.Omega.{arith}
+use Rattle.device_list.proofs.named_device.Given as goal
+
+abbrev pub invariant-loop-i : goal.invariant-loop-i
+invariant-loop-i l = (l.i ≤ l.count) × NoneBelow (λ k. is_device l.id l.name (device_in l.state first_device_word k)) l.i
+
+abbrev pub decreases-loop-i : goal.decreases-loop-i
+decreases-loop-i l = l.count - l.i

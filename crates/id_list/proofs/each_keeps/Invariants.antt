@@ -1,0 +1,22 @@
+-- `id_list::each_keeps` meets its contract: every id passed keeps the rules, and its hash stands at its two places.
+-- Assumes nothing.
+use mathlib.Core.Bool.{true}
+use mathlib.Core.Path.{◌≡◌, refl, ap, ◌∙◌}
+use Prim.Native.Nat.{◌*◌, ◌<◌, ◌≤◌, ◌-◌}
+use native.Mathlib.Omega.{arith}
+use lib.ListN.{length}
+use Rattle.basics.specs.Choice.{every}
+use Rattle.model.specs.Layout.{most_ids}
+use Rattle.model.specs.Peers.{id_keeps}
+use Rattle.basics.proofs.Choice.{clash}
+use Rattle.basics.proofs.Loops.{no, yes, every-none, every_more, every-fails, every-all}
+use Rattle.id_list.specs.Hashes.{HashesStand, folded}
+use Rattle.id_list.proofs.Hashes.{hashed-more, none-hashed, still-long}
+use Rattle.id_list.proofs.each_keeps.Given as goal
+
+abbrev pub invariant-loop-p : goal.invariant-loop-p
+invariant-loop-p l =
+    (l.p ≤ l.n) × (every l.p (id_keeps l.words l.at) ≡ true) × (length l.hashes ≡ 2 * most_ids) × HashesStand l.words l.at l.p l.hashes
+
+abbrev pub decreases-loop-p : goal.decreases-loop-p
+decreases-loop-p l = l.n - l.p

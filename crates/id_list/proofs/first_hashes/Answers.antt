@@ -1,0 +1,18 @@
+-- `id_list::first_hashes` meets its contract: what is written stands within the hashes.
+-- Assumes nothing.
+use native.Mathlib.Omega.{arith}
+use mathlib.Core.Path.{◌≡◌, refl}
+use Prim.Native.Nat.{◌*◌, ◌≤◌, ◌-◌}
+use lib.ListN.{length, length-set}
+use Rattle.model.specs.Layout.{most_ids}
+use borrow.Author.Rules.{rules}
+use Rattle.id_list.proofs.first_hashes.Goals as goal
+
+pub loop-p-init : goal.loop-p-init
+loop-p-init c = (omega arith, refl)
+
+pub loop-p-preserved : goal.loop-p-preserved
+loop-p-preserved c = (omega arith, simp length-set c.loop-p.invariant.1)
+
+pub returns : goal.returns
+returns c = c.loop-p.invariant.1

@@ -1,0 +1,14 @@
+-- `id_list::first_hashes` meets its contract: what is written stands within the hashes.
+-- Assumes nothing.
+use native.Mathlib.Omega.{arith}
+use mathlib.Core.Path.{◌≡◌, refl}
+use Prim.Native.Nat.{◌*◌, ◌≤◌, ◌-◌}
+use lib.ListN.{length, length-set}
+use Rattle.model.specs.Layout.{most_ids}
+use Rattle.id_list.proofs.first_hashes.Given as goal
+
+abbrev pub invariant-loop-p : goal.invariant-loop-p
+invariant-loop-p l = (l.p ≤ most_ids) × (length l.hashes ≡ 2 * most_ids)
+
+abbrev pub decreases-loop-p : goal.decreases-loop-p
+decreases-loop-p l = most_ids - l.p

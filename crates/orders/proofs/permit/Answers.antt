@@ -1,0 +1,11 @@
+use mathlib.Core.Path.{refl}
+use Rattle.model.specs.Orders.{permitting}
+use borrow.Author.Rules.{rules}
+use native.Mathlib.Omega.{arith}
+use Rattle.orders.proofs.permit.Goals as goal
+
+pub returns : goal.returns
+unfolding permitting
+returns c =
+    rw (← c.word_of-word.ensures)
+    (record { no_reply = refl; length' = refl; notes = c.permitted.ensures; state = c.set_permission.ensures })

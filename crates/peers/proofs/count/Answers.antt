@@ -1,0 +1,31 @@
+-- `peers::count` meets its contract: the marks passed are counted, one at most for each.
+-- Assumes nothing.
+use Prim.Native.Nat.{ℕ, ◌≤◌, ◌-◌}
+use native.Mathlib.Omega.{arith}
+use mathlib.Core.Path.{◌≡◌, sym, ap, ◌∙◌}
+use native.Mathlib.Nat.{le_antisymm}
+use Rattle.model.specs.Layout.{marks_at, most_ids}
+use Rattle.model.specs.Peers.{peers_below}
+use Rattle.model.proofs.Marks.{bit-few}
+use Rattle.peers.proofs.Laws.{none-counted, one-counted}
+use borrow.Author.Rules.{rules}
+use Rattle.peers.proofs.count.Goals as goal
+
+pub overflow_add-n : goal.overflow_add-n
+overflow_add-n c =
+    let a = c.args in
+    omega (arith, c.mark_of-n.ensures, bit-few (marks_at a.state.now a.channel) c.loop-p.p)
+
+pub loop-p-preserved : goal.loop-p-preserved
+loop-p-preserved c =
+    let l = c.loop-p in
+    let a = c.args in
+    (omega arith, omega (arith, c.mark_of-n.ensures, bit-few (marks_at a.state.now a.channel) l.p), rw (l.invariant.2, c.mark_of-n.ensures) (sym (one-counted _ _ _)))
+
+pub returns : goal.returns
+returns c =
+    let a = c.args in
+    c.loop-p.invariant.2 ∙ ap (λ (k : ℕ). peers_below a.state.now a.channel k) (le_antisymm c.loop-p.invariant.0 c.loop-p-test.false)
+
+pub loop-p-init : goal.loop-p-init
+loop-p-init c = (omega arith, omega arith, sym (none-counted _ _))

@@ -1,0 +1,25 @@
+-- `peers::find_peer` meets its contract: no id passed is registered under the handle.
+-- Assumes nothing.
+use native.Mathlib.Omega.{arith}
+use mathlib.Core.Path.{sym, ◌∙◌}
+use Prim.Native.Nat.{◌≤◌, ◌-◌}
+use Rattle.model.specs.Peers.{peered_as}
+use Rattle.model.specs.Layout.{most_ids}
+use Rattle.basics.proofs.Loops.{NoneBelow, none_first, none_more, found_here, found_nowhere}
+use borrow.Author.Rules.{rules}
+use Rattle.peers.proofs.find_peer.Goals as goal
+
+pub returns-then-peered_as : goal.returns-then-peered_as
+returns-then-peered_as c =
+    found_here _ _ _ c.loop-p.invariant.1 c.loop-p-test.true
+    (sym c.peered_as.ensures ∙ c.if-peered_as.true)
+
+pub loop-p-preserved : goal.loop-p-preserved
+loop-p-preserved c =
+    (omega arith, none_more _ _ c.loop-p.invariant.1 (sym c.peered_as.ensures ∙ c.if-peered_as.false))
+
+pub returns : goal.returns
+returns c = found_nowhere _ _ _ c.loop-p.invariant.1 c.loop-p-test.false
+
+pub loop-p-init : goal.loop-p-init
+loop-p-init c = (omega arith, none_first _)

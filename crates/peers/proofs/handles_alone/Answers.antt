@@ -1,0 +1,29 @@
+-- `peers::handles_alone` meets its contract: no handle passed stands before it.
+-- Assumes nothing.
+use mathlib.Core.Path.{ap}
+use mathlib.Core.Bool.{not}
+use native.Mathlib.Omega.{arith}
+use mathlib.Core.Bool.{true, false}
+use mathlib.Core.Path.{◌≡◌, refl, sym}
+use Prim.Native.Nat.{◌≤◌, ◌-◌}
+use borrow.Author.Tests.{not-false}
+use Rattle.basics.specs.Choice.{every}
+use Rattle.model.specs.Layout.{most_ids}
+use Rattle.model.specs.Peers.{peer_apart}
+use Rattle.basics.proofs.Choice.{clash}
+use Rattle.basics.proofs.Loops.{every-none, every_more, every-all}
+use borrow.Author.Rules.{rules}
+use Rattle.peers.proofs.handles_alone.Goals as goal
+
+pub loop-p-preserved : goal.loop-p-preserved
+loop-p-preserved c =
+    (omega arith, every_more _ _ c.loop-p.invariant.1 (c.handle_alone.ensures (not-false _ (ap not c.if-not-handle_alone.false))))
+
+pub returns : goal.returns
+returns c e = sym (every-all _ _ _ c.loop-p.invariant.0 c.loop-p-test.false c.loop-p.invariant.1)
+
+pub loop-p-init : goal.loop-p-init
+loop-p-init c = (omega arith, every-none _)
+
+pub returns-then-not-handle_alone : goal.returns-then-not-handle_alone
+returns-then-not-handle_alone c e = absurd (clash false refl e)

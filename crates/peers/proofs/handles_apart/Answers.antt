@@ -1,0 +1,12 @@
+-- `peers::handles_apart` meets its contract: by the quick test or by the exact one.
+-- Assumes nothing.
+use mathlib.Core.Path.{sym}
+use borrow.Author.Rules.{rules}
+use native.Mathlib.Omega.{arith}
+use Rattle.peers.proofs.handles_apart.Goals as goal
+
+pub returns-then-handles_alone : goal.returns-then-handles_alone
+returns-then-handles_alone c = sym (c.handles_alone.ensures c.if-handles_alone.true)
+
+pub returns : goal.returns
+returns c = c.registered_apart.ensures

@@ -1,0 +1,18 @@
+-- `peers::none_registered` meets its contract: none of the channels passed has a mark.
+-- Assumes nothing.
+use native.Mathlib.Omega.{arith}
+use mathlib.Core.Bool.{Bool, true, false}
+use mathlib.Core.Path.{◌≡◌, refl, sym, ◌∙◌}
+use Prim.Native.Nat.{ℕ, ◌+◌, ◌-◌, ◌<◌, ◌≤◌}
+use lib.Dec.{eqb}
+use borrow.Author.Tests.{eqb-true, eqb-false}
+use Rattle.model.specs.Layout.{channel_count, peered_at}
+use Rattle.basics.proofs.Choice.{both}
+use Rattle.names.proofs.Bytes.{both-pass}
+use Rattle.peers.proofs.none_registered.Given as goal
+
+abbrev pub invariant-loop-c : goal.invariant-loop-c
+invariant-loop-c l = (l.c ≤ channel_count) × (l.none ≡ true → (i : ℕ) → i < l.c → (p : ℕ) → peered_at l.state i p ≡ 0)
+
+abbrev pub decreases-loop-c : goal.decreases-loop-c
+decreases-loop-c l = channel_count - l.c

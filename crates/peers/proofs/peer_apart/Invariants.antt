@@ -1,0 +1,19 @@
+-- `peers::peer_apart` meets its contract: no handle passed is the same.
+-- Assumes nothing.
+use native.Mathlib.Omega.{arith}
+use mathlib.Core.Bool.{true, not}
+use mathlib.Core.Path.{◌≡◌, sym, ◌∙◌}
+use Prim.Native.Nat.{◌≤◌, ◌-◌}
+use lib.Dec.{eqb}
+use Rattle.basics.specs.Choice.{◌or◌, every}
+use Rattle.model.specs.Layout.{peered_at, peer_handle_at}
+use Rattle.model.specs.Peers.{peer_apart}
+use Rattle.basics.proofs.Loops.{no, yes, every-none, every_more, every-fails, every-all}
+use Rattle.peers.proofs.Laws.{apart-unmarked, apart-marked}
+use Rattle.peers.proofs.peer_apart.Given as goal
+
+abbrev pub invariant-loop-q : goal.invariant-loop-q
+invariant-loop-q l = (l.q ≤ l.p) × (every l.q (λ k. eqb (peered_at l.state l.channel k) 0 or not (eqb (peer_handle_at l.state l.channel k) l.handle)) ≡ true)
+
+abbrev pub decreases-loop-q : goal.decreases-loop-q
+decreases-loop-q l = l.p - l.q

@@ -1,0 +1,19 @@
+-- `removal_soundness::results_sound` meets its contract: every result passed is OK or NOWORK.
+-- Assumes nothing.
+use mathlib.Core.Bool.{true}
+use mathlib.Core.Path.{◌≡◌, sym, ◌∙◌}
+use Prim.Native.Nat.{◌+◌, ◌≤◌, ◌-◌}
+use native.Mathlib.Omega.{arith}
+use lib.ListN.{get_or}
+use Rattle.basics.specs.Choice.{every}
+use Rattle.model.specs.Layout.{removal_of, first_result_word}
+use Rattle.model.specs.State.{result_sound}
+use Rattle.basics.proofs.Loops.{no, yes, every-none, every_more, every-fails, every-all}
+use Rattle.removal_soundness.proofs.Rules.{results-words}
+use Rattle.removal_soundness.proofs.results_sound.Given as goal
+
+abbrev pub invariant-loop-i : goal.invariant-loop-i
+invariant-loop-i l = (l.i ≤ l.n) × (every l.i (λ k. result_sound (get_or l.state (first_result_word + k) 0)) ≡ true)
+
+abbrev pub decreases-loop-i : goal.decreases-loop-i
+decreases-loop-i l = l.n - l.i

@@ -1,0 +1,16 @@
+use native.Mathlib.Omega.{arith}
+use mathlib.Core.Path.{sym, ◌∙◌}
+use Rattle.model.specs.State.{room_at}
+use Rattle.model.proofs.Sounds.{named-less}
+use borrow.Author.Rules.{rules}
+use Rattle.removal_soundness.proofs.room_of.Goals as goal
+
+pub room_at-requires : goal.room_at-requires
+room_at-requires c = let e = named-less _ _ _ _ (sym c.named_block-found.ensures ∙ c.in-At.is) in omega (arith, e)
+
+pub returns-in-At : goal.returns-in-At
+returns-in-At c = rw (← c.named_block-found.ensures, c.in-At.is) c.room_at.ensures
+
+pub returns-in-Nowhere : goal.returns-in-Nowhere
+unfolding room_at
+returns-in-Nowhere c = rw (← c.named_block-found.ensures, c.in-Nowhere.is)

@@ -1,0 +1,14 @@
+use mathlib.Core.Path.{sym}
+use native.Mathlib.Omega.{arith}
+use Rattle.model.specs.Layout.{removal_of}
+use Rattle.model.proofs.RemovalWords.{collecting-words}
+use borrow.Author.Rules.{rules}
+use Rattle.removal_state.proofs.add_pages.Goals as goal
+
+pub returns : goal.returns
+unfolding removal_of
+returns c = let p = c.requires in sym (collecting-words _ c.word_count.ensures.1 p.0 p.1 _)
+
+pub overflow_add-state : goal.overflow_add-state
+unfolding removal_of
+overflow_add-state c = omega arith

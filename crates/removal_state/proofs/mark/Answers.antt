@@ -1,0 +1,10 @@
+use mathlib.Core.Path.{sym}
+use Rattle.model.specs.Layout.{removal_of}
+use Rattle.model.proofs.RemovalWords.{marked-words}
+use borrow.Author.Rules.{rules}
+use native.Mathlib.Omega.{arith}
+use Rattle.removal_state.proofs.mark.Goals as goal
+
+pub returns : goal.returns
+unfolding removal_of
+returns c = let p = c.requires in sym (marked-words _ c.word_count.ensures.1 p.0 p.1)

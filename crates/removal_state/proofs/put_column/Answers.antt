@@ -1,0 +1,31 @@
+use native.Mathlib.Omega.{arith}
+use Prim.Native.Nat.{ℕ, ◌+◌, ◌*◌, ◌≤◌, ◌-◌}
+use mathlib.Core.Path.{◌≡◌, refl, ◌∙◌}
+use lib.ListN.{take}
+use lib.Seq.{sets}
+use Rattle.wire.specs.BigEndian.{number_at}
+use Rattle.basics.specs.Choice.{tabulate}
+use Rattle.model.specs.Layout.{most_records, pair_bytes}
+use Rattle.basics.proofs.Choice.{tabulate-at, tabulate-length}
+use Rattle.state.proofs.Runs.{sets_more, sets-done}
+use borrow.Author.Rules.{rules}
+use Rattle.removal_state.proofs.put_column.Goals as goal
+
+pub loop-i-preserved : goal.loop-i-preserved
+loop-i-preserved c =
+    let l = c.loop-i in
+    let a = c.args in
+    let f : ℕ → ℕ = λ k. number_at a.b.now (a.at + k * pair_bytes) 8 in
+    let e = tabulate-length f most_records in
+    (omega arith, rw (l.invariant.1, c.number_of.ensures, ← tabulate-at f most_records l.i 0 (omega arith)) (sets_more _ (tabulate f most_records) a.word l.i 0 (omega arith)))
+
+pub returns : goal.returns
+returns c =
+    let l = c.loop-i in
+    let a = c.args in
+    let f : ℕ → ℕ = λ k. number_at a.b.now (a.at + k * pair_bytes) 8 in
+    let e = tabulate-length f most_records in
+    l.invariant.1 ∙ sets-done _ (tabulate f most_records) a.word l.i (omega arith)
+
+pub loop-i-init : goal.loop-i-init
+loop-i-init c = (omega arith, refl)

@@ -1,0 +1,26 @@
+use mathlib.Core.Path.{sym}
+use native.Mathlib.Omega.{arith}
+use Rattle.model.specs.Layout.{removal_of}
+use Rattle.model.proofs.RemovalWords.{settled-words}
+use borrow.Author.Rules.{rules}
+use Rattle.removal_state.proofs.settle.Goals as goal
+
+pub returns : goal.returns
+unfolding removal_of
+returns c = let p = c.requires in sym (settled-words _ c.word_count.ensures.1 p.0 p.1 _ p.2)
+
+pub overflow_add-state : goal.overflow_add-state
+unfolding removal_of
+overflow_add-state c = omega arith
+
+pub offset_bounds-state-position : goal.offset_bounds-state-position
+unfolding removal_of
+offset_bounds-state-position c = omega arith
+
+pub bounds-state-position : goal.bounds-state-position
+unfolding removal_of
+bounds-state-position c = omega arith
+
+pub overflow_add-state-2 : goal.overflow_add-state-2
+unfolding removal_of
+overflow_add-state-2 c = omega arith
