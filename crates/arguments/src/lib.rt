@@ -10,13 +10,17 @@ use lines::{fields, outcome};
 use std::env::{Env, FillError};
 use std::fmt::InlineText;
 use std::fs::{Files, OpenOptions};
-use std::io;
-use std::io::{Print, Write};
+use std::io::{ErrorKind, Print, Write};
+use std::os::unix::fs::PermissionsExt;
+use std::{fs, io};
 
 const MOST_BYTES: usize = 64;
 
 // The highest number of a descriptor.
 const MOST_DESCRIPTOR: u64 = 2147483647;
+
+// The owner's permission to write, among those of a file.
+const WRITES: u32 = 0o200;
 
 #[derive(Clone, Copy)]
 pub struct Options {
@@ -62,13 +66,14 @@ fn with_argument(options: Options, own: &[u8], word: &[u8]) -> Options {
     next
 }
 
-// An argument's bytes at the start of a run, all of the run where there are more; none where there is no such argument.
+// How many bytes an argument has, which are put at the start of a run; none where there is no such argument. One that is
+// longer than the run counts as an empty one: a program takes neither.
 fn word_at<R: Env>(rt: &R, i: usize, into: &mut [u8]) -> Option<usize>
     ensures { IfSome result (λ n. n ≤ length into.new) }
 {
     match rt.arg(i, into) {
         Ok(length) => Some(length),
-        Err(FillError::TooLong) => Some(into.len()),
+        Err(FillError::TooLong) => Some(0),
         Err(FillError::NotPresent) => None,
     }
 }
@@ -92,10 +97,15 @@ pub fn read<R: Env>(rt: &R, own: &[u8]) -> Options {
     options
 }
 
-// Writes a byte to an open descriptor, which the system names as a file; behind what the file has, where it is one.
+// Writes a byte to an open descriptor, which the system names as a file; behind what the file has, where it is one. The
+// name is a link, whose permissions tell whether the descriptor is one to write to.
 fn write_to_file<R: Files>(rt: &R, descriptor: i32, byte: u8) -> io::Result<()> {
-    let path = InlineText::<32>::of(format_args!("/dev/fd/{descriptor}"));
-    let mut file = OpenOptions::new().append(true).open(rt, path.as_str())?;
+    let name = InlineText::<32>::of(format_args!("/dev/fd/{descriptor}"));
+    let link = fs::symlink_metadata(rt, name.as_str())?;
+    if link.permissions().mode() & WRITES == 0 {
+        return Err(io::Error::from(ErrorKind::PermissionDenied));
+    }
+    let mut file = OpenOptions::new().append(true).open(rt, name.as_str())?;
     file.write_all(&[byte])
 }
 
