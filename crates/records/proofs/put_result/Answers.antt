@@ -11,7 +11,6 @@ use Rattle.records.proofs.put_result.Goals as goal
 pub returns : goal.returns
 unfolding result_record
 returns c =
-    
     let a = c.args in
     let span : reply_header_bytes + a.i * result_bytes + result_bytes - (reply_header_bytes + a.i * result_bytes) ≡ result_bytes = omega arith in
     record-put result_bytes _ _ (result_record a.state.now a.addr a.size a.res) _ _ (c.put_result_record.ensures ∙ rw c.status_of-status.ensures) (result-length _ _ _ _) span (omega arith)

@@ -1,0 +1,43 @@
+-- `queries::put_query_records` meets its contract: the records passed stand after the headers.
+-- Assumes nothing.
+use Rattle.std.proofs.Common.{◌≡◌, ◌+◌, ◌-◌, ◌*◌, ◌≤◌, length, refl, ◌∙◌, arith, length-drop, length-take}
+use lib.Seq.{sets}
+use Rattle.basics.specs.Choice.{joined}
+use Rattle.model.specs.Memory.{addr_in, size_in, query_record}
+use Rattle.model.proofs.Replies.{query-length}
+use Rattle.records.proofs.Parts.{record-more}
+use Rattle.model.specs.Layout.{query_bytes, reply_header_bytes}
+use borrow.Author.Rules.{rules}
+use native.Mathlib.Omega.{arith}
+use Rattle.queries.proofs.put_query_records.Goals as goal
+
+pub put_query_record-requires : goal.put_query_record-requires
+put_query_record-requires c =
+    
+    (c.requires.0, simp (length-take, length-drop) (omega arith))
+
+pub loop-i-preserved : goal.loop-i-preserved
+loop-i-preserved c =
+    
+    let l = c.loop-i in
+    let at = reply_header_bytes + l.i * query_bytes in
+    let fits : at + query_bytes ≤ length l.out = omega arith in
+    let span : at + query_bytes - at ≡ query_bytes = omega arith in (
+      omega arith,
+      omega arith,
+      record-more _ query_bytes (λ i. query-length _ _ _) _ _ _ _ _ l.invariant.2
+          (c.put_query_record.ensures ∙ rw (c.address-addr.ensures, c.size-size.ensures)) span fits,
+    )
+
+pub returns : goal.returns
+returns c =
+    let same : c.loop-i.i ≡ c.args.n = omega arith in
+    c.loop-i.invariant.2 ∙ rw same
+
+pub loop-i-init : goal.loop-i-init
+unfolding joined
+loop-i-init c = (omega arith, refl, refl)
+
+pub shape_of-out : goal.shape_of-out
+unfolding joined
+shape_of-out c = c.loop-i.invariant.1
