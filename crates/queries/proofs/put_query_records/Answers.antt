@@ -13,12 +13,10 @@ use Rattle.queries.proofs.put_query_records.Goals as goal
 
 pub put_query_record-requires : goal.put_query_record-requires
 put_query_record-requires c =
-    
     (c.requires.0, simp (length-take, length-drop) (omega arith))
 
 pub loop-i-preserved : goal.loop-i-preserved
 loop-i-preserved c =
-    
     let l = c.loop-i in
     let at = reply_header_bytes + l.i * query_bytes in
     let fits : at + query_bytes ≤ length l.out = omega arith in

@@ -1,0 +1,27 @@
+-- `devices::hear` meets its contract: a device found is asked, and another is answered as unknown.
+-- Assumes nothing.
+use mathlib.Core.Path.{sym, ◌∙◌}
+use Rattle.model.specs.DeviceRequests.{device_for}
+use Rattle.model.proofs.Rules.{sound-facts}
+use Rattle.devices.proofs.Laws.{named-place}
+use native.Mathlib.Omega.{arith}
+use borrow.Author.Rules.{rules}
+use Rattle.devices.proofs.hear.Goals as goal
+
+pub ask-requires : goal.ask-requires
+ask-requires c =
+    let p = c.requires in
+    (named-place _ _ _ _ (sound-facts _ p.0).devices (sym c.named_device-found.ensures ∙ c.in-At.is), omega (arith, p.1))
+
+pub returns-in-At : goal.returns-in-At
+unfolding device_for
+returns-in-At c =
+    rw (← c.named_device-found.ensures, c.in-At.is) c.ask.ensures
+
+pub returns-in-Nowhere : goal.returns-in-Nowhere
+unfolding device_for
+returns-in-Nowhere c =
+    rw (← c.named_device-found.ensures, c.in-Nowhere.is, ← c.unknown_result.ensures) (c.refuse.ensures _)
+
+pub named_device-found-requires : goal.named_device-found-requires
+named_device-found-requires c = (sound-facts _ c.requires.0).devices

@@ -1,0 +1,9 @@
+-- `devices::refuse` meets its contract: the response, and its entry.
+-- Assumes nothing.
+use Rattle.devices.proofs.Laws.{refuse-handles}
+use borrow.Author.Rules.{rules}
+use native.Mathlib.Omega.{arith}
+use Rattle.devices.proofs.refuse.Goals as goal
+
+pub returns : goal.returns
+returns c = λ s. refuse-handles s _ _ _ _ _ c.put_response.ensures c.answered.ensures

@@ -1,0 +1,7 @@
+use Rattle.memory.proofs.Laws.{block-handles}
+use borrow.Author.Rules.{rules}
+use native.Mathlib.Omega.{arith}
+use Rattle.memory.proofs.block.Goals as goal
+
+pub returns : goal.returns
+returns c = block-handles _ _ _ _ _ _ _ c.requires.1 c.requires.3 c.put_results_header-length.ensures c.put_blocked.ensures c.answered.ensures

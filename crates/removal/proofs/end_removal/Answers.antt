@@ -1,0 +1,12 @@
+use mathlib.Core.Path.{sym, ◌∙◌}
+use Rattle.removal_state.proofs.Laws.{channel-is, request-is}
+use Rattle.removal.proofs.Laws.{ends-replied, ends-silent}
+use borrow.Author.Rules.{rules}
+use native.Mathlib.Omega.{arith}
+use Rattle.removal.proofs.end_removal.Goals as goal
+
+pub returns-then-still_registered : goal.returns-then-still_registered
+returns-then-still_registered c = ends-replied _ _ _ (channel-is _ c.channel_of-channel.ensures) (request-is _ c.request_of-request.ensures) (sym c.still_registered.ensures ∙ c.if-still_registered.true) c.end_code-code.ensures c.put_late_reply-length.ensures c.removal_end.ensures c.clear_removal.ensures
+
+pub returns : goal.returns
+returns c = ends-silent _ _ _ (channel-is _ c.channel_of-channel.ensures) (request-is _ c.request_of-request.ensures) (sym c.still_registered.ensures ∙ c.if-still_registered.false) c.end_code-code.ensures c.removal_end-2.ensures c.clear_removal-2.ensures

@@ -1,0 +1,13 @@
+use Rattle.basics.specs.Choice.{◌or◌}
+use Rattle.removal_state.proofs.Laws.{cancelled-is, count-is, position-is}
+use borrow.Author.Rules.{rules}
+use native.Mathlib.Omega.{arith}
+use Rattle.removal.proofs.is_over.Goals as goal
+
+pub returns-then-is_cancelled : goal.returns-then-is_cancelled
+unfolding ◌or◌
+returns-then-is_cancelled c = rw (cancelled-is _ c.is_cancelled.ensures c.if-is_cancelled.true)
+
+pub returns : goal.returns
+unfolding ◌or◌
+returns c = rw (cancelled-is _ c.is_cancelled.ensures c.if-is_cancelled.false, ← count-is _ c.count_of.ensures, ← position-is _ c.position_of.ensures)

@@ -1,0 +1,18 @@
+use native.Mathlib.Omega.{arith}
+use Prim.Native.Nat.{◌≤◌, ◌-◌}
+use mathlib.Core.Path.{◌≡◌, refl, ◌∙◌}
+use lib.ListN.{length}
+use lib.Seq.{sets}
+use Rattle.basics.specs.Choice.{joined}
+use Rattle.model.specs.Layout.{reply_header_bytes}
+use Rattle.model.proofs.Replies.{result-length}
+use Rattle.records.proofs.Parts.{result-more}
+use Rattle.removal.specs.Fits.{late_record}
+use Rattle.removal.proofs.Laws.{late-record}
+use Rattle.removal.proofs.put_late_records.Given as goal
+
+abbrev pub invariant-loop-i : goal.invariant-loop-i
+invariant-loop-i l = (l.i ≤ l.n) × (length l.out ≡ length l.initial.out) × (l.out ≡ sets l.initial.out reply_header_bytes (joined (late_record l.state) l.i))
+
+abbrev pub decreases-loop-i : goal.decreases-loop-i
+decreases-loop-i l = l.n - l.i

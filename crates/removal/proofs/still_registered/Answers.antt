@@ -1,0 +1,31 @@
+use Rattle.basics.specs.Choice.{◌and◌}
+use Rattle.model.specs.Layout.{removal_of}
+use native.Mathlib.Omega.{arith}
+use borrow.Author.Tests.{eq-eqb, ne_eqb}
+use Rattle.removal_state.proofs.Laws.{channel-is, handle-is}
+use borrow.Author.Rules.{rules}
+use Rattle.removal.proofs.still_registered.Goals as goal
+
+pub returns-then-stage_of-ne-REGISTERED : goal.returns-then-stage_of-ne-REGISTERED
+unfolding ◌and◌
+returns-then-stage_of-ne-REGISTERED c = rw (← channel-is _ c.channel_of.ensures, ← c.stage_of.ensures, ne_eqb _ _ c.if-stage_of-ne-REGISTERED.true)
+
+pub returns : goal.returns
+unfolding ◌and◌
+returns c = rw (← channel-is _ c.channel_of.ensures, ← handle-is _ c.handle_of-2.ensures, ← c.stage_of.ensures, ← c.handle_of.ensures, eq-eqb _ _ c.if-stage_of-ne-REGISTERED.false)
+
+pub overflow_mul-k : goal.overflow_mul-k
+unfolding removal_of
+overflow_mul-k c = omega arith
+
+pub overflow_add-k : goal.overflow_add-k
+unfolding removal_of
+overflow_add-k c = omega arith
+
+pub stage_of-requires : goal.stage_of-requires
+unfolding removal_of
+stage_of-requires c = omega arith
+
+pub handle_of-requires : goal.handle_of-requires
+unfolding removal_of
+handle_of-requires c = omega arith

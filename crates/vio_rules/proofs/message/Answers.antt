@@ -1,0 +1,11 @@
+-- `vio_rules::message` meets its contract: field by field.
+-- Assumes nothing.
+use mathlib.Core.Path.{refl}
+use Rattle.vio_model.specs.Rules.{message}
+use borrow.Author.Rules.{rules}
+use native.Mathlib.Omega.{arith}
+use Rattle.vio_rules.proofs.message.Goals as goal
+
+pub returns : goal.returns
+unfolding message
+returns c = refl
