@@ -1,6 +1,6 @@
 /*
  * The agent called from C: setup, the first seven calls of the day at the panel, and the trail drained.
- * Build: rt staticlib exports && cc -Iinclude examples/day.c target/staticlib/libexports.a
+ * Build: tools/build exports && cc -Iinclude examples/day.c target/staticlib/libexports.a
  */
 #include "arkelutz.h"
 

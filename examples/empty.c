@@ -1,7 +1,7 @@
 /*
  * What the header says of NULL with length 0: every call is lent it in each place that has a length, and must answer and leave all as where it is
  * lent a pointer with length 0.
- * Build: rt staticlib exports && cc -Iinclude examples/empty.c target/staticlib/libexports.a
+ * Build: tools/build exports && cc -Iinclude examples/empty.c target/staticlib/libexports.a
  */
 #include "arkelutz.h"
 

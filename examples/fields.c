@@ -2,7 +2,7 @@
  * The header's fields of entries held against the agent's: fields SEED. Random calls are made; after each accepted one its entry is drained and
  * must tell what the call was, by the header's functions. On those words and on random ones the functions must give what division and
  * remainder give, and the fields put together again must be the word. It fails unless every kind that the agent writes came.
- * Build: rt staticlib exports && cc -Iinclude examples/fields.c target/staticlib/libexports.a
+ * Build: tools/build exports && cc -Iinclude examples/fields.c target/staticlib/libexports.a
  */
 #include "arkelutz.h"
 

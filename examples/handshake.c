@@ -1,6 +1,6 @@
 /*
  * The handshake of examples/handshake.vio called from C: the messages sent, and what both ends agree on.
- * Build: rt staticlib vio_exports && cc -Iinclude examples/handshake.c target/staticlib/libvio_exports.a
+ * Build: tools/build vio_exports && cc -Iinclude examples/handshake.c target/staticlib/libvio_exports.a
  */
 #include "arkelutz_vio.h"
 

@@ -5,7 +5,7 @@
  *
  * The agent forgets what it drained, so a copy of its state is drained, which leaves the journal as it is, and takes the state's place only when
  * the entries are on the disk. Until then the agent still holds them: a failed write loses none.
- * Build: rt staticlib exports && cc -Iinclude examples/save.c target/staticlib/libexports.a
+ * Build: tools/build exports && cc -Iinclude examples/save.c target/staticlib/libexports.a
  */
 #define _POSIX_C_SOURCE 200809L
 #include "arkelutz.h"

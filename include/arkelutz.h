@@ -1,6 +1,6 @@
 /*
  * The agent's calls, for C (C99 and later) and C++ (C++11 and later). To link them on x86-64 or on SPARC V9:
- *     rt staticlib exports && cc -Iinclude host.c target/staticlib/libexports.a
+ *     tools/build exports && cc -Iinclude host.c target/staticlib/libexports.a
  *     sparc/build && sparc64-linux-gnu-gcc -Iinclude host.c target/sparc64/libarkelutz.a
  * tools/pkgconfig writes target/staticlib/arkelutz.pc for pkg-config.
  *

@@ -1,5 +1,5 @@
 /*
- * The VIO version handshake's calls, for C: link target/staticlib/libvio_exports.a, which `rt staticlib vio_exports` writes.
+ * The VIO version handshake's calls, for C: link target/staticlib/libvio_exports.a, which `tools/build vio_exports` writes.
  *
  * Every call checks all that it is given and is proved to do nothing undefined on any words, lengths and numbers. What C must see to: each
  * pointer has as many elements as the length beside it says, and setup's list and an end do not overlap.

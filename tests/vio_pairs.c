@@ -3,7 +3,7 @@
  * starts with the other, held to what must come of it by a direct definition, the highest major that both hold and
  * the lower of its minors. It writes what it counted (tests/vio_pairs.answers) and ends with 0 if no call was refused
  * and no exchange came to anything else.
- * Build: rt staticlib vio_exports && cc -std=c99 -Iinclude tests/vio_pairs.c target/staticlib/libvio_exports.a
+ * Build: tools/build vio_exports && cc -std=c99 -Iinclude tests/vio_pairs.c target/staticlib/libvio_exports.a
  */
 #include "arkelutz_vio.h"
 

@@ -1,4 +1,4 @@
-//! Links target/staticlib/libexports.a, which `rt staticlib exports` writes.
+//! Links target/staticlib/libexports.a, which `tools/build exports` writes.
 
 fn main() {
     let root = concat!(env!("CARGO_MANIFEST_DIR"), "/../..");

@@ -1,5 +1,5 @@
 //! The guest's end of Domain Services for sun4v logical domains: the proved
-//! agent, by its static library (`rt staticlib exports`), for safe Rust. It needs
+//! agent, by its static library (`tools/build exports`), for safe Rust. It needs
 //! neither the standard library nor an allocator.
 //!
 //! An [`Agent`] owns its state, its journal and the output that replies are
