@@ -2,16 +2,27 @@
 // Its script gives the latter.
 #![tactic(auto)]
 
-use libc::STDERR_FILENO;
+ghost use Rattle.std.specs.Prelude.{◌≤◌, IfSome, length};
+
 use lines::fields::Number;
+use lines::outcome::tell;
 use lines::{fields, outcome};
+use std::env::{Env, FillError};
+use std::fmt::InlineText;
+use std::fs::{Files, OpenOptions};
+use std::io::{ErrorKind, Print, Write};
+use std::os::unix::fs::PermissionsExt;
+use std::{fs, io};
 
 const MOST_BYTES: usize = 64;
 
 // The highest number of a descriptor.
 const MOST_DESCRIPTOR: u64 = 2147483647;
 
-#[derive(Drop)]
+// The owner's permission to write, among those of a file.
+const WRITES: u32 = 0o200;
+
+#[derive(Clone, Copy)]
 pub struct Options {
     // The program's own option is there.
     pub own: bool,
@@ -55,39 +66,69 @@ fn with_argument(options: Options, own: &[u8], word: &[u8]) -> Options {
     next
 }
 
+// How many bytes an argument has, which are put at the start of a run; none where there is no such argument. One that is
+// longer than the run counts as an empty one: a program takes neither.
+fn word_at<R: Env>(rt: &R, i: usize, into: &mut [u8]) -> Option<usize>
+    ensures { IfSome result (λ n. n ≤ length into.new) }
+{
+    match rt.arg(i, into) {
+        Ok(length) => Some(length),
+        Err(FillError::TooLong) => Some(0),
+        Err(FillError::NotPresent) => None,
+    }
+}
+
 // The program's arguments; `own` is its own option, empty where it has none.
-pub fn read(own: &[u8]) -> Options {
+pub fn read<R: Env>(rt: &R, own: &[u8]) -> Options {
     let mut options = Options {
         own: false,
         wrong: false,
         status_fd: -1,
         awaits_number: false,
     };
-    let count = os::arg_count();
-    let mut i: usize = 1;
-    while i < count {
+    for i in 1..usize::MAX {
         let mut word = [0u8; MOST_BYTES];
-        let length = os::arg(i, &mut word);
+        let Some(length) = word_at(rt, i, &mut word) else {
+            break;
+        };
         options = with_argument(options, own, &word[..length]);
-        i += 1;
     }
     options.wrong = options.wrong || options.awaits_number;
     options
 }
 
+// Writes a byte to an open descriptor, which the system names as a file; behind what the file has, where it is one. The
+// name is a link, whose permissions tell whether the descriptor is one to write to.
+fn write_to_file<R: Files>(rt: &R, descriptor: i32, byte: u8) -> io::Result<()> {
+    let name = InlineText::<32>::of(format_args!("/dev/fd/{descriptor}"));
+    let link = fs::symlink_metadata(rt, name.as_str())?;
+    if link.permissions().mode() & WRITES == 0 {
+        return Err(io::Error::from(ErrorKind::PermissionDenied));
+    }
+    let mut file = OpenOptions::new().append(true).open(rt, name.as_str())?;
+    file.write_all(&[byte])
+}
+
+fn write_to(rt: HostRuntime, descriptor: i32, byte: u8) -> io::Result<()> {
+    match descriptor {
+        1 => Print::write_all(&rt.stdout(), &[byte]),
+        2 => Print::write_all(&rt.stderr(), &[byte]),
+        _ => write_to_file(&rt, descriptor, byte),
+    }
+}
+
 // Reports how the program ended, where it was given a descriptor for that.
-pub fn report(options: Options, outcome: u8) {
+pub fn report(rt: HostRuntime, options: Options, outcome: u8) {
     if options.status_fd < 0 {
         return;
     }
-    let byte = [outcome; 1];
-    if !io::write_all(options.status_fd, &byte) {
-        io::write_all(STDERR_FILENO, b"the outcome cannot be reported\n");
+    if write_to(rt, options.status_fd, outcome).is_err() {
+        tell(rt.stderr(), b"the outcome cannot be reported\n");
     }
 }
 
 // The answer to arguments that the program does not take.
-pub fn usage(options: Options, text: &[u8]) {
-    io::write_all(STDERR_FILENO, text);
-    report(options, outcome::FAILED);
+pub fn usage(rt: HostRuntime, options: Options, text: &[u8]) {
+    tell(rt.stderr(), text);
+    report(rt, options, outcome::FAILED);
 }

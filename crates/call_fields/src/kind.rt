@@ -2,7 +2,7 @@
 use lines::fields;
 use lines::input::{LONGEST, is_ignored};
 
-#[derive(Drop)]
+#[derive(Clone, Copy)]
 pub enum Kind {
     // A blank line or a comment.
     Ignored,

@@ -5,7 +5,7 @@ use lines::fields::{Number, Read};
 
 // Two numbers that a line's fields give (the second 0 where there is one; the count of bytes where there are bytes), or
 // a bad line.
-#[derive(Drop)]
+#[derive(Clone, Copy)]
 pub enum Numbers {
     Are(u64, u64),
     Bad,

@@ -14,6 +14,7 @@ use lines::output::{Gathered, TEXT_BYTES, Text};
 use lines::parts::{bytes_within, words_within};
 use lines::{fields, input, output};
 use model::{JOURNAL_WORDS, OUTPUT_BYTES, STATE_WORDS, State};
+use std::io::Stdout;
 
 // The most words of journal and bytes of output that a list can have the calls lent.
 const MOST_JOURNAL: usize = 200;
@@ -22,7 +23,7 @@ const MOST_OUTPUT: usize = 4096;
 
 // What is gathered, whether a line was bad so far, and the words of journal and bytes of output that the calls are
 // lent.
-#[derive(Drop)]
+#[derive(Clone, Copy)]
 struct Place {
     gathered: Gathered,
     bad: bool,
@@ -30,9 +31,9 @@ struct Place {
     output: usize,
 }
 
-fn begun() -> Place {
+fn begun(to: Stdout) -> Place {
     Place {
-        gathered: output::none(),
+        gathered: output::none(to),
         bad: false,
         journal: JOURNAL_WORDS,
         output: OUTPUT_BYTES,
@@ -117,7 +118,7 @@ fn call(
 }
 
 // What a line that makes no call changes, if it is one and its fields are good.
-#[derive(Drop)]
+#[derive(Clone, Copy)]
 enum Setting {
     Set(Place),
     None,
@@ -214,7 +215,7 @@ fn answer(
 
 // Answers the list until the input ends, and returns how it ended. What was read is answered before the next read;
 // after a failed read the unfinished line is not run. The count of turns only lets the loop be proved to end.
-pub fn run(program: &[u8]) -> u8 {
+pub fn run(rt: HostRuntime, program: &[u8]) -> u8 {
     let mut input = [0u8; INPUT_BYTES];
     let mut text = [0u8; TEXT_BYTES];
     let mut journal = [0u64; MOST_JOURNAL];
@@ -222,8 +223,8 @@ pub fn run(program: &[u8]) -> u8 {
     let mut words = [0u64; FRONT_WORDS];
     let mut bytes = [0u8; FRONT_BYTES];
     let mut state = [0u64; STATE_WORDS];
-    let mut place = begun();
-    let mut held = input::none();
+    let mut place = begun(rt.stdout());
+    let mut held = input::none(rt.stdin());
     let mut turns: u64 = 18446744073709551615;
     while 0 < turns {
         if held.done || held.failed {
@@ -254,5 +255,11 @@ pub fn run(program: &[u8]) -> u8 {
         held = input::refill(&mut input, held);
     }
     place = written(&text, place);
-    outcome_of(program, held.failed, place.gathered.failed, place.bad)
+    outcome_of(
+        rt.stderr(),
+        program,
+        held.failed,
+        place.gathered.failed,
+        place.bad,
+    )
 }

@@ -15,7 +15,7 @@ use model::State;
 const MOST: usize = 16384;
 
 // What a line comes to: its answer gathered, or nothing, because its fields are bad.
-#[derive(Drop)]
+#[derive(Clone, Copy)]
 pub(crate) enum Reply {
     Text(Gathered),
     Bad,

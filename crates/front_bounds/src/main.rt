@@ -303,9 +303,9 @@ fn held(text: &mut Text, gathered: Gathered) -> Gathered {
     reopen(text, next, &words_of(8, 0), &bytes, &state, 2)
 }
 
-fn main() {
+fn main(rt: HostRuntime) {
     let mut text = [0u8; TEXT_BYTES];
-    let mut next = output::none();
+    let mut next = output::none(rt.stdout());
     next = short_messages(&mut text, next);
     next = whole_messages(&mut text, next);
     next = long_messages(&mut text, next);
@@ -315,6 +315,10 @@ fn main() {
     next = unsound_state(&mut text, next);
     next = held(&mut text, next);
     if output::flush(&text, next).failed {
-        report_failure(b"front_bounds", b"the output cannot be written");
+        report_failure(
+            rt.stderr(),
+            b"front_bounds",
+            b"the output cannot be written",
+        );
     }
 }

@@ -1,11 +1,11 @@
 // Runs the agent over the list of calls on standard input.
 #![tactic(auto)]
 
-fn main() {
-    let options = arguments::read(b"");
+fn main(rt: HostRuntime) {
+    let options = arguments::read(&rt, b"");
     if options.wrong {
-        arguments::usage(options, b"usage: host [--status-fd N] < LIST\n");
+        arguments::usage(rt, options, b"usage: host [--status-fd N] < LIST\n");
         return;
     }
-    arguments::report(options, calls::run(b"arkelutz"));
+    arguments::report(rt, options, calls::run(rt, b"arkelutz"));
 }

@@ -1,9 +1,9 @@
 -- Bytes pair by pair.
 -- Assumes nothing.
-use Rattle.std.proofs.Common.{◌≡◌, ℕ, suc, ◌+◌, ◌/◌, ◌%◌, ◌<◌, ◌≤◌, true, false, eqb, ltb, leb, List, ◌++◌, length, get_or, drop, set, sym, ap, ◌∙◌, add-one, arith, drop-cons, ltb-true, le-ltb, lt-ltb, eq-eqb, ne_eqb, le-leb}
+use Rattle.std.proofs.Common.{◌≡◌, ℕ, suc, ◌+◌, ◌/◌, ◌%◌, ◌<◌, ◌≤◌, true, false, ltb, leb, List, ◌++◌, length, get_or, drop, set, sym, ap, ◌∙◌, add-one, arith, drop-cons, ltb-true, le-ltb, lt-ltb, eq-eqb, ne_eqb, le-leb}
 use lib.Seq.{set_at, append_snoc}
 use borrow.Author.Tests.{lt-leb}
-use Rattle.basics.specs.Choice.{pick, ◌and◌, every, tabulate}
+use Rattle.basics.specs.Choice.{◌and◌, every, tabulate}
 use Rattle.basics.proofs.Choice.{clash, pick_true, pick-false, both, join, and-false, and-false-right, tabulate-length}
 use Rattle.basics.proofs.Loops.{every-fails}
 use Rattle.lines.specs.Fields.{digit_of, pair_of, are_pair, pair_in, byte_of, is_byte, are_bytes, bytes_in, BytesRead}

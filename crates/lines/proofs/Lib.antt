@@ -5,3 +5,4 @@ mod Digits
 mod Numbers
 mod Bytes
 mod Puts
+mod Search

@@ -2,7 +2,7 @@
 -- spaces", "hexadecimal is .. read in either" case.
 -- Assumes nothing.
 use Rattle.std.specs.Prelude.{◌≡◌, ℕ, zero, suc, ◌+◌, ◌-◌, ◌*◌, ◌/◌, ◌%◌, Bool, true, false, ltb, List, ◌++◌, length, drop, nat_eq, nat_le, nat_lt, slice_index}
-use Rattle.bytes.specs.Bytes.{index_of, slice}
+use Rattle.lines.specs.Search.{index_of, slice}
 use Rattle.basics.specs.Choice.{pick, ◌and◌, every, tabulate}
 use Rattle.lines.specs.declared.fields.Number.{Number}
 use Rattle.lines.specs.declared.fields.Number.TheVariants.{Value, Bad}

@@ -3,15 +3,17 @@ ghost use Rattle.std.specs.Prelude.{◌≡◌, ◌≤◌, true, false, length};
 ghost use Rattle.io.specs.Counts.{IsPrefixLen};
 ghost use Rattle.lines.specs.Fields.{digit_of, appended, digits_in, number_in, pair_in, BytesRead, end_of, are_same, is_comment, is_blank};
 
+use crate::scan::find;
+
 // A number below 2^64, or no number.
-#[derive(Drop)]
+#[derive(Clone, Copy)]
 pub enum Number {
     Value(u64),
     Bad,
 }
 
 // A count of things read into a lent run, or none because a field is bad.
-#[derive(Drop)]
+#[derive(Clone, Copy)]
 pub enum Read {
     Count(usize),
     Bad,
@@ -171,7 +173,7 @@ pub fn end_of(line: &[u8], from: usize) -> usize
     ensures lower_bound { from ≤ result }
     ensures prefix_len { IsPrefixLen result line.now }
 {
-    bytes::scan::find(line, from, line.len(), b' ')
+    find(line, from, line.len(), b' ')
 }
 
 // The line begins with #.

@@ -4,7 +4,8 @@ ghost use Rattle.std.specs.Prelude.{◌≡◌, ◌+◌, ◌≤◌, length};
 ghost use Rattle.lines.specs.Input.{Holds, input_bytes};
 
 use crate::fields::{is_blank, is_comment};
-use libc::STDIN_FILENO;
+use crate::scan::find;
+use std::io::{Read, Stdin};
 
 // The longest line, without its line end.
 pub const LONGEST: usize = 32768;
@@ -17,10 +18,11 @@ pub const INPUT_BYTES: usize = LONGEST + 1 + READ_BYTES;
 
 pub type Input = [u8; INPUT_BYTES];
 
-// The bytes from `start` to `end` of the buffer have not been handed out; `lines` lines have. `ended` and `failed` say
-// how the last read went; `done`, that the last line was handed out.
-#[derive(Drop)]
+// Where the bytes are read from. Those from `start` to `end` of the buffer have not been handed out; `lines` lines have.
+// `ended` and `failed` say how the last read went; `done`, that the last line was handed out.
+#[derive(Clone, Copy)]
 pub struct Held {
+    pub from: Stdin,
     pub start: usize,
     pub end: usize,
     pub lines: u64,
@@ -30,10 +32,11 @@ pub struct Held {
 }
 
 // Before the first read.
-pub fn none() -> Held
+pub fn none(from: Stdin) -> Held
     ensures { Holds result }
 {
     Held {
+        from: from,
         start: 0,
         end: 0,
         lines: 0,
@@ -50,7 +53,7 @@ pub fn line_end(input: &[u8], held: Held) -> usize
 {
     let start = held.start;
     let end = held.end;
-    bytes::scan::find(input, start, end, b'\n')
+    find(input, start, end, b'\n')
 }
 
 // The line up to `stop` is whole: its line end is there, or the input has ended.
@@ -94,6 +97,30 @@ fn move_front(input: &mut [u8], from: usize, count: usize)
     }
 }
 
+// The bytes that a read put at the start of a run, and how it went: none at the end of the input, and where it failed.
+#[derive(Clone, Copy)]
+struct Got {
+    count: usize,
+    failed: bool,
+}
+
+// One read.
+fn read_once(from: Stdin, into: &mut [u8]) -> Got
+    ensures { result.count ≤ length into.new }
+{
+    let mut source = from;
+    match source.read(into) {
+        Ok(count) => Got {
+            count: count,
+            failed: false,
+        },
+        Err(_) => Got {
+            count: 0,
+            failed: true,
+        },
+    }
+}
+
 // Reads more behind the unfinished line, which goes to the front.
 pub fn refill(input: &mut [u8], held: Held) -> Held
     requires { Holds held × (length input.old ≡ input_bytes) }
@@ -102,13 +129,14 @@ pub fn refill(input: &mut [u8], held: Held) -> Held
     let kept = lesser(held.end - held.start, LONGEST + 1);
     move_front(input, held.start, kept);
     let limit = kept + READ_BYTES;
-    let got = libc::read(STDIN_FILENO, &mut input[kept..limit]);
+    let got = read_once(held.from, &mut input[kept..limit]);
     Held {
+        from: held.from,
         start: 0,
-        end: kept + io::count(got, &input[kept..limit]),
+        end: kept + got.count,
         lines: held.lines,
-        ended: got == 0,
-        failed: got < 0,
+        ended: got.count == 0 && !got.failed,
+        failed: got.failed,
         done: false,
     }
 }

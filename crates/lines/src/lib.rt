@@ -8,3 +8,4 @@ pub mod input;
 pub mod outcome;
 pub mod output;
 pub mod parts;
+mod scan;

@@ -6,7 +6,7 @@ ghost use Rattle.lines.specs.Forms.{Gathers, bad_line, line_of, most_form, shown
 use crate::form;
 use crate::form::Values;
 use crate::parts::bytes_within;
-use libc::STDOUT_FILENO;
+use std::io::{Print, Stdout};
 
 pub const TEXT_BYTES: usize = 65536;
 
@@ -15,25 +15,27 @@ const LINE_BYTES: usize = 35330;
 
 pub type Text = [u8; TEXT_BYTES];
 
-// The bytes gathered so far, and whether a write has failed.
-#[derive(Drop)]
+// Where the bytes go, how many are gathered so far, and whether a write has failed.
+#[derive(Clone, Copy)]
 pub struct Gathered {
+    pub to: Stdout,
     pub used: usize,
     pub failed: bool,
 }
 
-pub fn none() -> Gathered
+pub fn none(to: Stdout) -> Gathered
     ensures { result.used ≡ 0 }
 {
     Gathered {
+        to: to,
         used: 0,
         failed: false,
     }
 }
 
-fn write_front(run: &[u8], count: usize) -> bool {
+fn write_front(to: Stdout, run: &[u8], count: usize) -> bool {
     let end = bytes_within(count, run);
-    io::write_all(STDOUT_FILENO, &run[..end])
+    Print::write_all(&to, &run[..end]).is_ok()
 }
 
 // Writes out what is gathered.
@@ -41,8 +43,9 @@ pub fn flush(text: &Text, gathered: Gathered) -> Gathered
     ensures { result.used ≡ 0 }
 {
     Gathered {
+        to: gathered.to,
         used: 0,
-        failed: gathered.failed || !write_front(text, gathered.used),
+        failed: gathered.failed || !write_front(gathered.to, text, gathered.used),
     }
 }
 

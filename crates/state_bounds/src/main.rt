@@ -71,14 +71,18 @@ fn ends_and_setups(text: &mut Text, gathered: Gathered) -> Gathered {
     setup_cases::accepted_setup(text, next)
 }
 
-fn main() {
+fn main(rt: HostRuntime) {
     let mut text = [0u8; TEXT_BYTES];
-    let mut next = as_it_is(&mut text, output::none());
+    let mut next = as_it_is(&mut text, output::none(rt.stdout()));
     next = services_and_blocks(&mut text, next);
     next = numbers_and_removals(&mut text, next);
     next = lists_and_peers(&mut text, next);
     next = ends_and_setups(&mut text, next);
     if output::flush(&text, next).failed {
-        report_failure(b"state_bounds", b"the output cannot be written");
+        report_failure(
+            rt.stderr(),
+            b"state_bounds",
+            b"the output cannot be written",
+        );
     }
 }

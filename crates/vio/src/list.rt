@@ -5,18 +5,19 @@ use lines::input::{INPUT_BYTES, LONGEST, is_ignored};
 use lines::outcome::outcome_of;
 use lines::output::{Gathered, TEXT_BYTES, Text};
 use lines::{fields, input, output};
+use std::io::Stdout;
 use vio_model::{END_WORDS, End};
 
 // What is gathered, and whether a line was bad so far.
-#[derive(Drop)]
+#[derive(Clone, Copy)]
 struct Place {
     gathered: Gathered,
     bad: bool,
 }
 
-fn begun() -> Place {
+fn begun(to: Stdout) -> Place {
     Place {
-        gathered: output::none(),
+        gathered: output::none(to),
         bad: false,
     }
 }
@@ -85,13 +86,13 @@ fn answer(
 
 // Answers the list until the input ends, and returns how it ended. What was read is answered before the next read;
 // after a failed read the unfinished line is not run. The count of turns only lets the loop be proved to end.
-pub(crate) fn run() -> u8 {
+pub(crate) fn run(rt: HostRuntime) -> u8 {
     let mut input = [0u8; INPUT_BYTES];
     let mut text = [0u8; TEXT_BYTES];
     let mut zero = [0u64; END_WORDS];
     let mut one = [0u64; END_WORDS];
-    let mut place = begun();
-    let mut held = input::none();
+    let mut place = begun(rt.stdout());
+    let mut held = input::none(rt.stdin());
     let mut turns: u64 = 18446744073709551615;
     while 0 < turns {
         if held.done || held.failed {
@@ -119,5 +120,11 @@ pub(crate) fn run() -> u8 {
         held = input::refill(&mut input, held);
     }
     place = written(&text, place);
-    outcome_of(b"vio", held.failed, place.gathered.failed, place.bad)
+    outcome_of(
+        rt.stderr(),
+        b"vio",
+        held.failed,
+        place.gathered.failed,
+        place.bad,
+    )
 }

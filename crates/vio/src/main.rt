@@ -5,11 +5,11 @@ mod answers;
 mod list;
 mod parsed;
 
-fn main() {
-    let options = arguments::read(b"");
+fn main(rt: HostRuntime) {
+    let options = arguments::read(&rt, b"");
     if options.wrong {
-        arguments::usage(options, b"usage: vio [--status-fd N] < LIST\n");
+        arguments::usage(rt, options, b"usage: vio [--status-fd N] < LIST\n");
         return;
     }
-    arguments::report(options, list::run());
+    arguments::report(rt, options, list::run(rt));
 }

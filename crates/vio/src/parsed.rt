@@ -14,7 +14,7 @@ const MOST: usize = 16384;
 const BEFORE_VERSIONS: usize = 3;
 
 // What a line comes to: its answer gathered, or nothing, because its fields are bad.
-#[derive(Drop)]
+#[derive(Clone, Copy)]
 pub(crate) enum Reply {
     Text(Gathered),
     Bad,

@@ -248,11 +248,11 @@ fn all_pairs(counts: &mut Counts) {
     }
 }
 
-fn main() {
+fn main(rt: HostRuntime) {
     let mut counts = [0u64; 7];
     all_pairs(&mut counts);
     let mut text = [0u8; TEXT_BYTES];
-    let mut next = output::none();
+    let mut next = output::none(rt.stdout());
     next = output::put_line(&mut text, next, b"lists \0", [counts[LISTS], 0, 0, 0]);
     next = output::put_line(&mut text, next, b"pairs \0", [counts[PAIRS], 0, 0, 0]);
     next = output::put_line(
@@ -281,6 +281,6 @@ fn main() {
         [counts[DIFFERENCES], 0, 0, 0],
     );
     if output::flush(&text, next).failed {
-        report_failure(b"vio_pairs", b"the output cannot be written");
+        report_failure(rt.stderr(), b"vio_pairs", b"the output cannot be written");
     }
 }

@@ -1,0 +1,28 @@
+-- `front::front_sound` meets its contract: every channel passed is sound.
+-- Assumes nothing.
+use mathlib.Core.Path.{ap}
+use mathlib.Core.Bool.{not}
+use native.Mathlib.Omega.{arith}
+use mathlib.Core.Bool.{true}
+use mathlib.Core.Path.{◌≡◌}
+use Prim.Native.Nat.{◌≤◌, ◌-◌}
+use Rattle.basics.specs.Choice.{every}
+use Rattle.model.specs.Layout.{channel_count}
+use Rattle.front_model.specs.Front.{front_sound, front_sound_at}
+use Rattle.basics.proofs.Loops.{no, yes, every-none, every_more, every-fails, every-all}
+use borrow.Author.Rules.{rules}
+use Rattle.front.proofs.front_sound.Goals as goal
+
+pub returns-then-not-channel_sound : goal.returns-then-not-channel_sound
+unfolding front_sound
+returns-then-not-channel_sound c = (every-fails _ _ _ c.loop-c-test.true (no _ c.channel_sound.ensures (ap not c.if-not-channel_sound.true)), c.word_count.ensures.1, c.byte_count.ensures.1)
+
+pub loop-c-preserved : goal.loop-c-preserved
+loop-c-preserved c = (omega arith, every_more _ _ c.loop-c.invariant.1 (yes _ c.channel_sound.ensures (ap not c.if-not-channel_sound.false)))
+
+pub returns : goal.returns
+unfolding front_sound
+returns c = (every-all _ _ _ c.loop-c.invariant.0 c.loop-c-test.false c.loop-c.invariant.1, c.word_count.ensures.1, c.byte_count.ensures.1)
+
+pub loop-c-init : goal.loop-c-init
+loop-c-init c = (omega arith, every-none _)

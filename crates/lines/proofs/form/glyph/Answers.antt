@@ -1,0 +1,10 @@
+-- `lines::form::glyph` meets its contract.
+-- Assumes nothing.
+use Rattle.std.proofs.Common.{le-ltb, lt-ltb}
+use Rattle.lines.proofs.form.glyph.Goals as goal
+
+pub returns-then-d-lt10 : goal.returns-then-d-lt10
+returns-then-d-lt10 c = rw (lt-ltb _ 10 c.if-d-lt10.true)
+
+pub returns : goal.returns
+returns c = rw (le-ltb _ 10 c.if-d-lt10.false)
