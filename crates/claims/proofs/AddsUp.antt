@@ -7,7 +7,7 @@ use mathlib.Core.Bool.{Bool, true, false}
 use mathlib.Core.List.{List, [], ◌∷◌, ◌++◌}
 use lib.ListN.{length, get_or, take, length-append, get_or-append}
 use lib.Seq.{get_or-append_seam, take-append-le, take-append_seam}
-use lib.Dec.{leb, ltb, eqb}
+use lib.Dec.{leb}
 use borrow.Author.Tests.{leb-true, leb-false, le-ltb, ne_eqb, eqb-true}
 use Rattle.basics.specs.Choice.{pick, ◌or◌}
 use Rattle.model.specs.declared.Event.{Event}

@@ -23,7 +23,7 @@ use Rattle.model.specs.Devices.{named_device}
 use Rattle.model.specs.DeviceRequests.{operation_of, device_number, device_id, device_type, device_name, device_reply, answering_device, asking_device, device_for, answered_device}
 use Rattle.model.specs.Orders.{order_number, order_reply, not_ordered, ordering, ordering_for, answered_order}
 use Rattle.model.specs.Peers.{top_bit, is_peered, peered_as, peer_for}
-use Rattle.model.specs.Reading.{none, view_of, no_peer, peer, peer_place, peers_shown, has_handle}
+use Rattle.model.specs.Reading.{view_of, no_peer, peer, peer_place, peers_shown, has_handle}
 use Rattle.claims.specs.Demand3.{same_bytes, Delivers, WellFormedData, reached, reached_peer, reply_of, shows_peer}
 use Rattle.model.specs.Reading.{shows_registered, shows_service}
 use Rattle.basics.proofs.Choice.{clash, on-pick, on-first, first-nowhere, first-same, both, and-false-right, tabulate-at}

@@ -10,7 +10,7 @@ use lib.ListN.{length, get_or, get_or-replicate}
 use lib.Seq.{sets, length-sets}
 use lib.Dec.{eqb, leb, ltb}
 use borrow.Author.Tests.{le-leb, le-ltb, lt-ltb, eq-eqb, ne_eqb, eqb-true, eqb-false}
-use Rattle.basics.specs.Choice.{pick, every, ◌or◌, first_below, tabulate}
+use Rattle.basics.specs.Choice.{pick, ◌or◌, first_below, tabulate}
 use Rattle.basics.specs.declared.Found.TheVariants.{At}
 use Rattle.model.specs.declared.Removal.{Removal}
 use Rattle.model.specs.Layout.{block_at, block_in, block_words, channel_count, place_count, service_count, first_block_word, last_of, outstanding_of, stage_at, handle_at, minor_at, ready_at, stage_idle, stage_registered, word_of, is_set, removal_of, held_of, with_removal, first_stage_word, service_words, state_words, block_count_word, last_word, held_word, outstanding_word, most_records, first_numbered_word, device_count_word, first_device_word, device_configured_place, device_words, name_place, name_bytes_in, device_in, devices_of, first_permission_word, order_shutdown, order_panic, highest_delay, most_ids, id_words, id_place, id_minor_place, id_count_word, first_id_word, first_peer_word, mark_words, peer_words, bit_of, ids_of, id_in, id_bytes_in, peered_at, peer_handle_at, peer_minor_at}

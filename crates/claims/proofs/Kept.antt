@@ -27,7 +27,7 @@ use Rattle.model.proofs.Calls.{on-act, on-drain}
 use Rattle.model.proofs.Above.{turn-keeps, turn-orders}
 use Rattle.model.proofs.Peers.{ids-same}
 use Rattle.model.proofs.Setup.{setup-accepts, starts, empty-last}
-use Rattle.model.specs.Journal.{mark_event, stored, entries_at, entry_of, fields_of, words_of}
+use Rattle.model.specs.Journal.{mark_event, entries_at, entry_of, fields_of, words_of}
 use Rattle.model.specs.Blocks.{Lists, no_lists, setup_state}
 use Rattle.model.specs.Layout.{entry_words, held_of, last_of, state_words}
 

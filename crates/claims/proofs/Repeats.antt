@@ -5,13 +5,12 @@ use native.Mathlib.Omega.{arith}
 use mathlib.Core.Path.{◌≡◌, refl, sym, ap, ◌∙◌}
 use mathlib.Core.Bool.{true, false}
 use mathlib.Core.List.{List, [], ◌++◌, append_assoc}
-use lib.ListN.{length, get_or, set, take, drop}
+use lib.ListN.{length, get_or}
 use lib.Seq.{get_or-set_same, take_at, drop_at}
-use lib.Dec.{eqb}
 use borrow.Author.Tests.{le-leb, le-ltb, eq-eqb, lt-ltb}
 use Rattle.wire.specs.BigEndian.{bytes_of, number_at}
 use Rattle.wire.proofs.Laws.{length-bytes, number-of-bytes}
-use Rattle.basics.specs.Choice.{pick, ◌and◌, is_found, tabulate, joined}
+use Rattle.basics.specs.Choice.{pick, ◌and◌, is_found, joined}
 use Rattle.model.specs.declared.Event.{Event}
 use Rattle.basics.specs.declared.Found.TheVariants.{At}
 use Rattle.model.specs.Layout.{memory_service, reply_header_bytes, result_bytes, query_bytes, outstanding_of, removal_of, most_records, state_words, memory_header_bytes, is_set, outstanding_word, most_blocks, blocks_of, with_removal}

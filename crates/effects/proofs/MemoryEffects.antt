@@ -6,7 +6,7 @@ use mathlib.Core.Path.{◌≡◌, refl, sym, ap, ◌∙◌}
 use mathlib.Core.Bool.{Bool, true, false}
 use mathlib.Core.List.{List, []}
 use lib.ListN.{length, get_or, length-replicate}
-use lib.Dec.{leb, ltb, eqb}
+use lib.Dec.{ltb, eqb}
 use borrow.Author.Tests.{leb-true, eqb-true, eqb-false, lt-ltb, not-false}
 use Rattle.basics.specs.Choice.{pick, ◌or◌, every}
 use Rattle.model.specs.declared.Event.{Event}
@@ -37,7 +37,6 @@ use Rattle.effects.proofs.Needs.{answered-needs, configured-needs, begun-needs, 
 use Rattle.model.proofs.Shown.{Reaches}
 use Rattle.effects.proofs.Effects.{Good, read_by, needed_by, shape, next-number, base-now, removes-now, unchanged, number-only, given-numbers, good-numbers, reaches-numbers}
 use Rattle.model.specs.Blocks.{named_block}
-use Rattle.model.specs.Calls.{shown}
 use Rattle.model.proofs.View.{shown-at, shown-length, blocks-count}
 
 -- no pages collected are sound wherever the removal stands

@@ -1,6 +1,6 @@
 -- A peer registration made, and one ended: what they do to a channel's registrations and to what is shown of them.
 -- Assumes nothing.
-use Prim.Native.Nat.{ℕ, zero, suc, ◌+◌, ◌-◌, ◌*◌, ◌/◌, ◌%◌, ◌<◌, ◌≤◌}
+use Prim.Native.Nat.{ℕ, zero, suc, ◌+◌, ◌*◌, ◌/◌, ◌%◌, ◌<◌, ◌≤◌}
 use native.Mathlib.Omega.{arith}
 use mathlib.Core.Path.{◌≡◌, refl, sym, ap, ◌∙◌}
 use mathlib.Core.Bool.{Bool, true, false, not}
@@ -8,7 +8,7 @@ use mathlib.Core.List.{List, [], ◌∷◌}
 use lib.ListN.{length, get_or, set}
 use lib.Dec.{eqb, leb, ltb}
 use borrow.Author.Tests.{leb-true, le-leb, ltb-true, ltb-false, lt-ltb, eqb-true, eqb-false, ne_eqb, eq-eqb, not-true}
-use Rattle.basics.specs.Choice.{pick, ◌and◌, ◌or◌, every, tabulate}
+use Rattle.basics.specs.Choice.{pick, ◌and◌, ◌or◌, tabulate}
 use Rattle.model.specs.Layout.{id_at, id_in, id_minor_place, id_words, ids_of, most_ids, most_peers, channel_count, mark_words, peer_words, id_count_word, first_id_word, first_peer_word, state_words, ready_at, peered_at, peer_handle_at, peer_minor_at, with_peer, without_peer}
 use Rattle.model.specs.Peers.{top_bit, is_peered, peered_as, peers_below, peer_sound, peer_apart, peers_sound}
 use Rattle.model.specs.Journal.{fields_of}

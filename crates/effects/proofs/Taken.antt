@@ -3,12 +3,10 @@
 use Prim.Native.Nat.{ℕ, ◌≤◌, ◌<◌}
 use native.Mathlib.Omega.{arith}
 use mathlib.Core.Path.{◌≡◌}
-use mathlib.Core.Bool.{true, false, not}
+use mathlib.Core.Bool.{true}
 use mathlib.Core.List.{List}
 use lib.ListN.{length}
-use lib.Dec.{eqb}
 use borrow.Author.Tests.{ltb-true, leb-true, eqb-true, eqb-false, not-true}
-use Rattle.model.specs.State.{sound}
 use Rattle.model.specs.Messages.{Effect}
 use Rattle.model.specs.Calls.{Action, allowed, close, effect_of, in_range, offer, receive, refusal_of, withdraw, work, permit, take_order}
 use Rattle.basics.proofs.Choice.{both}

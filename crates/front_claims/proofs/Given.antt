@@ -1,10 +1,10 @@
 -- Messages laid end to end are given as they are, however they are cut; and a front of words 0 is sound and empty.
 -- Assumes nothing.
-use Prim.Native.Nat.{ℕ, zero, suc, ◌+◌, ◌-◌, ◌<◌}
+use Prim.Native.Nat.{ℕ, zero, suc, ◌+◌, ◌<◌}
 use native.Mathlib.Omega.{arith}
 use mathlib.Core.Path.{◌≡◌, refl, sym, ap, ◌∙◌}
 use mathlib.Core.List.{List, [], ◌∷◌}
-use lib.ListN.{length, drop, length-append}
+use lib.ListN.{length, length-append}
 use lib.Seq.{drop-append_seam}
 use Rattle.basics.specs.Choice.{pick, every, tabulate, ◌and◌, ◌or◌}
 use Rattle.front_model.specs.Front.{Part, keeps, part_of, parts_of, unfinished, front_sound_at, front_sound, EmptySound}

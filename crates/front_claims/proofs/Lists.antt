@@ -3,16 +3,14 @@
 use Prim.Native.Nat.{ℕ}
 use mathlib.Core.Path.{◌≡◌, refl, sym, ◌∙◌}
 use mathlib.Core.List.{List, [], ◌∷◌}
-use lib.ListN.{length}
 use borrow.Author.Tests.{eq-eqb, ne_eqb}
-use Rattle.basics.specs.Choice.{pick}
 use Rattle.model.specs.Calls.{act, receive, outcome, accepted, refused, effect_of, pages_of, refusal_of}
 use Rattle.claims.specs.Demand3.{Done, Run, after, runs, new_run}
 use Rattle.claims.specs.EveryList.{Meets, answers, AllMeet}
 use Rattle.basics.proofs.Choice.{pick_true, pick-false}
 use Rattle.claims.proofs.ListsHold as model-proof
 use Rattle.front_model.specs.Front.{Front}
-use Rattle.front_model.specs.Calls.{all, Pieced, piece_refused, piece_kept, piece_given}
+use Rattle.front_model.specs.Calls.{Pieced, piece_refused, piece_kept, piece_given}
 use Rattle.front_claims.specs.Lists.{FrontDone, piecing, reopening, calling, Standing, stands, stands_after, FrontMeets, AllFrontMeet, receive_of, stands_for, made_by, FrontListsHold}
 use Rattle.front_claims.proofs.Pieces.{Way, refuses, keeping, giving, refusing, way}
 

@@ -2,14 +2,14 @@
 -- Assumes nothing.
 use Prim.Native.Nat.{ℕ, ◌<◌}
 use mathlib.Core.Path.{◌≡◌, refl}
-use mathlib.Core.Bool.{true, false, not}
+use mathlib.Core.Bool.{true}
 use mathlib.Core.List.{List}
 use lib.ListN.{length}
 use lib.Dec.{eqb}
 use borrow.Author.Tests.{eqb-true, eqb-false, ne_eqb, ltb-true, not-false}
 use Rattle.basics.specs.Choice.{pick}
 use Rattle.model.specs.Layout.{channel_count}
-use Rattle.model.specs.Calls.{act, receive, accepted, refused, effect_of, pages_of, refusal_of}
+use Rattle.model.specs.Calls.{receive, accepted, refused, effect_of, pages_of, refusal_of}
 use Rattle.basics.proofs.Choice.{on-pick, both}
 use Rattle.model.proofs.Calls.{row-passed, on-act}
 use Rattle.front_model.specs.Front.{Front, Part, part_of, front_sound}

@@ -7,7 +7,7 @@ use mathlib.Core.Bool.{Bool, true, false}
 use mathlib.Core.List.{List, [], ◌++◌, append_assoc, append-nil}
 use lib.ListN.{length, take, drop, length-append, take-append-drop, get_or-append}
 use lib.Seq.{take-append-le, take-append-add, take-length, length-take-le}
-use lib.Dec.{leb, ltb}
+use lib.Dec.{ltb}
 use Rattle.basics.proofs.Choice.{join, both, or-true}
 use borrow.Author.Tests.{ltb-true, ltb-false, leb-true, lt-ltb, le-ltb, le-leb}
 use Rattle.wire.specs.BigEndian.{byte_at, number_at}

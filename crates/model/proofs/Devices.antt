@@ -6,9 +6,9 @@ use mathlib.Core.Path.{◌≡◌, refl, sym, ap, ◌∙◌}
 use mathlib.Core.Bool.{Bool, true, false, not}
 use mathlib.Core.List.{List, [], ◌∷◌}
 use lib.ListN.{length, get_or, set}
-use lib.Dec.{eqb, leb}
+use lib.Dec.{eqb}
 use borrow.Author.Tests.{leb-true, le-leb, eqb-true, eqb-false}
-use Rattle.basics.specs.Choice.{every, tabulate}
+use Rattle.basics.specs.Choice.{tabulate}
 use Rattle.model.specs.Layout.{Device, no_device, device_in, device_at, name_bytes_in, name_byte_in, devices_of, word_bytes, name_place, name_bytes_place, busy_place, device_configured_place, device_words, most_devices, most_name_bytes, device_count_word, first_device_word, first_permission_word, state_words, with_device}
 use Rattle.model.specs.Devices.{words_holding, padding_bytes, name_keeps, device_keeps, is_device, device_apart, devices_keep}
 use Rattle.model.specs.Reading.{devices_shown, as_now, device_now}

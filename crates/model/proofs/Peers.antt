@@ -8,14 +8,14 @@ use mathlib.Core.List.{List, []}
 use lib.ListN.{length, get_or}
 use lib.Dec.{eqb, leb, ltb}
 use borrow.Author.Tests.{leb-true, le-leb, ltb-true, ne_eqb, eqb-true, eqb-false}
-use Rattle.basics.specs.Choice.{pick, ◌or◌, every, cleared_from, tabulate}
+use Rattle.basics.specs.Choice.{pick, ◌or◌, cleared_from, tabulate}
 use Rattle.model.specs.declared.Event.{Event}
 use Rattle.model.specs.Layout.{PeerId, id_in, id_at, id_bytes_in, id_byte_in, ids_of, word_bytes, id_place, id_bytes_place, id_minor_place, id_words, most_ids, most_id_bytes, highest_minor, channel_count, mark_words, peer_words, id_count_word, first_id_word, first_peer_word, state_words, ready_at, peered_at, peer_handle_at, peer_minor_at, with_channel}
 use Rattle.model.specs.Devices.{words_holding, padding_bytes, same_name}
 use Rattle.model.specs.Peers.{id_bytes_keep, id_keeps, id_apart, ids_keep, peers_below, peer_sound, peer_apart, peers_sound}
 use Rattle.model.specs.Journal.{kind_noted, kind_ready, kind_closed, kind_version_refused, kind_peer_registered, kind_peer_ended, fields_of}
 use Rattle.model.specs.Messages.{Effect, effect}
-use Rattle.model.specs.Reading.{Peer, no_peer, peer, peer_place, peers_shown, read_peers, ids_shown}
+use Rattle.model.specs.Reading.{Peer, no_peer, peer_place, peers_shown, read_peers, ids_shown}
 use Rattle.basics.proofs.Choice.{both, join, every-at, every-make, every-same, tabulate-same, tabulate-cleared}
 use Rattle.model.proofs.Words.{Agree, channel-frame, channel-peers, channel-unpeered}
 

@@ -27,7 +27,6 @@ use Rattle.model.proofs.Marks.{no-bit}
 use Rattle.model.proofs.Peers.{SameIdWords, id-facts, id-few, ids-keep, unmarked-sound, peers-shown-same, ids-listed, ids-shown-same}
 use Rattle.model.proofs.Rules.{service-idle}
 use Rattle.model.proofs.Sounds.{removes-none, sound-counted}
-use Rattle.model.specs.Messages.{services}
 
 -- an accepted list as facts
 pub record Whole (l : List ℕ) (n : ℕ) : Type 0 where

@@ -12,7 +12,7 @@ use lib.Dec.{eqb}
 use borrow.Author.Tests.{eq-eqb, eqb-true}
 use Rattle.wire.specs.BigEndian.{byte_at, number_at, bytes_of}
 use Rattle.wire.proofs.Laws.{number-split, number_bound, number-of-bytes}
-use Rattle.basics.specs.Choice.{◌and◌, every, tabulate}
+use Rattle.basics.specs.Choice.{◌and◌, tabulate}
 use Rattle.model.specs.Layout.{word_bytes, word_byte}
 use Rattle.basics.proofs.Choice.{both, every-at, every-make, every-same, tabulate-same}
 use Rattle.basics.proofs.Loops.{refute, every-fails}

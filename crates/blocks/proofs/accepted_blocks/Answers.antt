@@ -4,7 +4,6 @@ use mathlib.Core.Path.{sym, ◌∙◌}
 use native.Mathlib.Omega.{arith}
 use Rattle.basics.proofs.Loops.{refute}
 use Rattle.blocks.proofs.Rules.{accepted-rules, accepted-last, blocks_last}
-use borrow.Author.Rules.{rules}
 use Rattle.blocks.proofs.accepted_blocks.Goals as goal
 
 pub returns-then-l-ne0 : goal.returns-then-l-ne0

@@ -5,7 +5,6 @@ use native.Mathlib.Omega.{arith}
 use Rattle.model.proofs.Rules.{block-rules}
 use Rattle.basics.proofs.Loops.{refute}
 use Rattle.blocks.proofs.Rules.{lies-last}
-use borrow.Author.Rules.{rules}
 use Rattle.blocks.proofs.block_keeps.Goals as goal
 
 pub returns-then-base-ne0 : goal.returns-then-base-ne0

@@ -3,8 +3,6 @@
 use mathlib.Core.Path.{sym}
 use borrow.Author.Tests.{eq-eqb, ne_eqb}
 use Rattle.basics.proofs.Choice.{pick_true, pick-false}
-use borrow.Author.Rules.{rules}
-use native.Mathlib.Omega.{arith}
 use Rattle.blocks.proofs.found_at.Goals as goal
 
 pub returns-then-pages-size : goal.returns-then-pages-size

@@ -2,17 +2,13 @@
 -- Assumes nothing.
 use mathlib.Core.Path.{ap}
 use mathlib.Core.Bool.{not}
-use mathlib.Core.Bool.{true}
-use mathlib.Core.Path.{◌≡◌, refl}
-use Prim.Native.Nat.{◌≤◌, ◌-◌}
+use mathlib.Core.Path.{refl}
 use native.Mathlib.Numerals.{add-one}
 use native.Mathlib.Omega.{arith}
 use Rattle.model.proofs.Rules.{block-rules}
-use Rattle.model.specs.Blocks.{block_keeps, end_before}
-use Rattle.basics.specs.Choice.{every}
+use Rattle.model.specs.Blocks.{end_before}
 use Rattle.model.specs.Layout.{block_in}
 use Rattle.basics.proofs.Loops.{no, yes, every-none, every_more, every-fails, every-all}
-use borrow.Author.Rules.{rules}
 use Rattle.blocks.proofs.keep_rules.Goals as goal
 
 pub returns-then-not-block_keeps : goal.returns-then-not-block_keeps

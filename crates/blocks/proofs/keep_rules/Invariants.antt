@@ -1,15 +1,11 @@
 -- `blocks::keep_rules` meets its contract: every block passed keeps the rules, and the floor is the end of the last of them.
 -- Assumes nothing.
 use mathlib.Core.Bool.{true}
-use mathlib.Core.Path.{◌≡◌, refl}
+use mathlib.Core.Path.{◌≡◌}
 use Prim.Native.Nat.{◌≤◌, ◌-◌}
-use native.Mathlib.Numerals.{add-one}
-use native.Mathlib.Omega.{arith}
-use Rattle.model.proofs.Rules.{block-rules}
 use Rattle.model.specs.Blocks.{block_keeps, end_before}
 use Rattle.basics.specs.Choice.{every}
 use Rattle.model.specs.Layout.{block_in}
-use Rattle.basics.proofs.Loops.{no, yes, every-none, every_more, every-fails, every-all}
 use Rattle.blocks.proofs.keep_rules.Given as goal
 
 abbrev pub invariant-loop-i : goal.invariant-loop-i

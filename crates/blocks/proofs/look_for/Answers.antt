@@ -1,14 +1,13 @@
 -- `blocks::look_for` meets its contract. The loop's invariant: the blocks told of were looked at, and `left` are left from `low` on. The
 -- measure is those left.
 -- Assumes nothing.
-use Prim.Native.Nat.{◌+◌, ◌≤◌, ◌<◌}
-use mathlib.Core.Path.{◌≡◌, refl}
+use Prim.Native.Nat.{◌<◌}
+use mathlib.Core.Path.{refl}
 use native.Mathlib.Omega.{arith}
-use lib.ListN.{length, take, length-set}
-use Rattle.model.specs.Layout.{blocks_of, most_looked, block_in}
+use lib.ListN.{length-set}
+use Rattle.model.specs.Layout.{most_looked, block_in}
 use Rattle.model.specs.Search.{found_there}
-use Rattle.blocks.proofs.Halves.{Going, going-first, room, going-above, going-below, tells-here, tells-nowhere}
-use borrow.Author.Rules.{rules}
+use Rattle.blocks.proofs.Halves.{going-first, room, going-above, going-below, tells-here, tells-nowhere}
 use Rattle.blocks.proofs.look_for.Goals as goal
 use Rattle.blocks.proofs.look_for.Lts as lts
 use Rattle.blocks.proofs.look_for.Reads as reads
@@ -34,8 +33,6 @@ found_at-requires c =
 pub returns-then-base-addr : goal.returns-then-base-addr
 unfolding block_in found_there
 returns-then-base-addr c =
-    
-    
     tells-here _ _ _ _ _ _ _ (omega arith) c.loop-left.invariant.3 (omega (arith, has_room (search))) c.if-base-addr.true c.found_at.ensures
 
 pub loop-left-preserved-then-base-addr-2 : goal.loop-left-preserved-then-base-addr-2

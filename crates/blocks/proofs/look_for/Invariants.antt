@@ -1,13 +1,11 @@
 -- `blocks::look_for` meets its contract. The loop's invariant: the blocks told of were looked at, and `left` are left from `low` on. The
 -- measure is those left.
 -- Assumes nothing.
-use Prim.Native.Nat.{◌+◌, ◌≤◌, ◌<◌}
-use mathlib.Core.Path.{◌≡◌, refl}
-use native.Mathlib.Omega.{arith}
-use lib.ListN.{length, take, length-set}
-use Rattle.model.specs.Layout.{blocks_of, most_looked, block_in}
-use Rattle.model.specs.Search.{found_there}
-use Rattle.blocks.proofs.Halves.{Going, going-first, room, going-above, going-below, tells-here, tells-nowhere}
+use Prim.Native.Nat.{◌+◌, ◌≤◌}
+use mathlib.Core.Path.{◌≡◌}
+use lib.ListN.{length, take}
+use Rattle.model.specs.Layout.{blocks_of, most_looked}
+use Rattle.blocks.proofs.Halves.{Going}
 use Rattle.blocks.proofs.look_for.Given as goal
 
 abbrev pub invariant-loop-left : goal.invariant-loop-left

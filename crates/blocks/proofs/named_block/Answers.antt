@@ -3,8 +3,6 @@
 use mathlib.Core.Path.{◌∙◌}
 use Rattle.model.specs.Blocks.{named_block}
 use Rattle.model.proofs.Search.{in-order-found}
-use borrow.Author.Rules.{rules}
-use native.Mathlib.Omega.{arith}
 use Rattle.blocks.proofs.named_block.Goals as goal
 
 pub returns : goal.returns

@@ -6,7 +6,6 @@ use borrow.Author.Tests.{eq-eqb, ne_eqb}
 use Rattle.basics.specs.Choice.{pick}
 use Rattle.basics.proofs.Loops.{refute}
 use Rattle.blocks.proofs.Rules.{permanent-rules, permanent-last}
-use borrow.Author.Rules.{rules}
 use Rattle.blocks.proofs.permanent_keeps.Goals as goal
 
 pub returns-then-pages-first : goal.returns-then-pages-first

@@ -4,7 +4,6 @@ use mathlib.Core.Path.{sym, ◌∙◌}
 use native.Mathlib.Omega.{arith}
 use Rattle.basics.proofs.Loops.{refute}
 use Rattle.blocks.proofs.Rules.{blocks-rules, blocks_last}
-use borrow.Author.Rules.{rules}
 use Rattle.blocks.proofs.state_blocks_keep.Goals as goal
 
 pub returns-then-n-gt-MOST_BLOCKS : goal.returns-then-n-gt-MOST_BLOCKS

@@ -1,6 +1,4 @@
 use Rattle.configuration.proofs.Laws.{bit_is}
-use borrow.Author.Rules.{rules}
-use native.Mathlib.Omega.{arith}
 use Rattle.configuration.proofs.bit.Goals as goal
 
 pub returns : goal.returns

@@ -1,6 +1,4 @@
 use Rattle.configuration.proofs.Laws.{configure-none, configure-some}
-use borrow.Author.Rules.{rules}
-use native.Mathlib.Omega.{arith}
 use Rattle.configuration.proofs.configure.Goals as goal
 
 pub returns-then-mask-eq0 : goal.returns-then-mask-eq0

@@ -1,9 +1,7 @@
 use native.Mathlib.Omega.{arith}
-use Prim.Native.Nat.{◌≤◌, ◌-◌}
-use mathlib.Core.Path.{◌≡◌, refl}
-use lib.ListN.{length}
-use Rattle.configuration.proofs.Laws.{Passed, passed_none, passed-more, passes, mask_fits, order-next}
-use borrow.Author.Rules.{rules}
+use Prim.Native.Nat.{◌-◌}
+use mathlib.Core.Path.{refl}
+use Rattle.configuration.proofs.Laws.{passed_none, passed-more, passes, mask_fits, order-next}
 use Rattle.configuration.proofs.configure_all.Goals as goal
 
 pub loop-i-init : goal.loop-i-init
@@ -14,21 +12,14 @@ configure_one-step-requires c = let p = c.loop-i.invariant.2 in (p.blocks, p.siz
 
 pub put_result-requires : goal.put_result-requires
 put_result-requires c =
-    
-    
     (omega arith, order-next _ _ _ _ c.loop-i.invariant.2 c.address-addr.ensures c.size-size.ensures c.configure_one-step.ensures, omega arith)
 
 pub overflow_add-mask : goal.overflow_add-mask
 overflow_add-mask c =
-    
-    
     omega (arith, mask_fits _ _ _ _ c.loop-i.invariant.2 c.address-addr.ensures c.size-size.ensures c.configure_one-step.ensures)
 
 pub loop-i-preserved : goal.loop-i-preserved
 loop-i-preserved c =
-    
-    
-    
     (omega arith, omega arith, passed-more _ _ _ _ c.loop-i.invariant.2 c.address-addr.ensures c.size-size.ensures c.configure_one-step.ensures c.put_result.ensures)
 
 pub returns : goal.returns

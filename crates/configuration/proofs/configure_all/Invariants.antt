@@ -1,8 +1,7 @@
-use native.Mathlib.Omega.{arith}
 use Prim.Native.Nat.{◌≤◌, ◌-◌}
-use mathlib.Core.Path.{◌≡◌, refl}
+use mathlib.Core.Path.{◌≡◌}
 use lib.ListN.{length}
-use Rattle.configuration.proofs.Laws.{Passed, passed_none, passed-more, passes, mask_fits, order-next}
+use Rattle.configuration.proofs.Laws.{Passed}
 use Rattle.configuration.proofs.configure_all.Given as goal
 
 abbrev pub invariant-loop-i : goal.invariant-loop-i

@@ -1,7 +1,5 @@
 use mathlib.Core.Path.{sym, ◌∙◌}
 use Rattle.configuration.proofs.Laws.{unchanged-at, configured-at}
-use borrow.Author.Rules.{rules}
-use native.Mathlib.Omega.{arith}
 use Rattle.configuration.proofs.configure_at.Goals as goal
 
 pub returns-then-configured_of-ne0 : goal.returns-then-configured_of-ne0

@@ -2,8 +2,6 @@ use mathlib.Core.Path.{sym, ◌∙◌}
 use Rattle.basics.specs.declared.Found.TheVariants.{At, Nowhere}
 use Rattle.model.proofs.Sounds.{named-less}
 use Rattle.configuration.proofs.Laws.{unknown-at, failed-one, found-one}
-use borrow.Author.Rules.{rules}
-use native.Mathlib.Omega.{arith}
 use Rattle.configuration.proofs.configure_one.Goals as goal
 
 pub configure_at-requires : goal.configure_at-requires

@@ -4,7 +4,6 @@ use mathlib.Core.Path.{sym, ◌∙◌}
 use native.Mathlib.Omega.{arith}
 use Rattle.basics.proofs.Loops.{refute}
 use Rattle.device_list.proofs.Names.{accepted-rules, accepted-last}
-use borrow.Author.Rules.{rules}
 use Rattle.device_list.proofs.accepted_devices.Goals as goal
 
 pub returns-then-l-ne0 : goal.returns-then-l-ne0

@@ -2,8 +2,6 @@
 -- Assumes nothing.
 use mathlib.Core.Path.{sym, ◌∙◌}
 use Rattle.device_list.proofs.Rising.{rising-apart}
-use borrow.Author.Rules.{rules}
-use native.Mathlib.Omega.{arith}
 use Rattle.device_list.proofs.all_apart.Goals as goal
 
 pub returns-then-ids_rise : goal.returns-then-ids_rise

@@ -2,8 +2,6 @@
 -- Assumes nothing.
 use mathlib.Core.Path.{sym, ◌∙◌}
 use Rattle.device_list.proofs.Rising.{ids-apart}
-use borrow.Author.Rules.{rules}
-use native.Mathlib.Omega.{arith}
 use Rattle.device_list.proofs.device_apart.Goals as goal
 
 pub returns-then-id_apart : goal.returns-then-id_apart

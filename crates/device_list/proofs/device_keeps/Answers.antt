@@ -5,7 +5,6 @@ use Rattle.model.specs.Layout.{device_in}
 use Rattle.basics.proofs.Loops.{refute}
 use Rattle.device_list.proofs.Names.{name-held, device-rules, device-last}
 use native.Mathlib.Omega.{arith}
-use borrow.Author.Rules.{rules}
 use Rattle.device_list.proofs.device_keeps.Goals as goal
 
 pub returns-then-words-d-gt1 : goal.returns-then-words-d-gt1

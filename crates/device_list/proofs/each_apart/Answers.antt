@@ -2,15 +2,9 @@
 -- Assumes nothing.
 use mathlib.Core.Path.{ap}
 use mathlib.Core.Bool.{not}
-use mathlib.Core.Bool.{true}
-use mathlib.Core.Path.{◌≡◌}
-use Prim.Native.Nat.{◌≤◌, ◌-◌}
 use native.Mathlib.Omega.{arith}
-use Rattle.basics.specs.Choice.{every}
-use Rattle.model.specs.Devices.{device_apart}
 use Rattle.basics.proofs.Choice.{every-at, every-make}
 use Rattle.basics.proofs.Loops.{no, yes, every-none, every_more, every-fails, every-all}
-use borrow.Author.Rules.{rules}
 use Rattle.device_list.proofs.each_apart.Goals as goal
 
 pub device_apart-requires : goal.device_apart-requires
@@ -20,12 +14,10 @@ device_apart-requires c =
 
 pub returns-then-not-device_apart : goal.returns-then-not-device_apart
 returns-then-not-device_apart c =
-    
     every-fails _ _ _ c.loop-i-test.true (no _ c.device_apart.ensures (ap not c.if-not-device_apart.true))
 
 pub loop-i-preserved : goal.loop-i-preserved
 loop-i-preserved c =
-    
     (omega arith, every_more _ _ c.loop-i.invariant.1 (yes _ c.device_apart.ensures (ap not c.if-not-device_apart.false)))
 
 pub returns : goal.returns

@@ -3,11 +3,8 @@
 use mathlib.Core.Bool.{true}
 use mathlib.Core.Path.{◌≡◌}
 use Prim.Native.Nat.{◌≤◌, ◌-◌}
-use native.Mathlib.Omega.{arith}
 use Rattle.basics.specs.Choice.{every}
 use Rattle.model.specs.Devices.{device_apart}
-use Rattle.basics.proofs.Choice.{every-at, every-make}
-use Rattle.basics.proofs.Loops.{no, yes, every-none, every_more, every-fails, every-all}
 use Rattle.device_list.proofs.each_apart.Given as goal
 
 abbrev pub invariant-loop-i : goal.invariant-loop-i

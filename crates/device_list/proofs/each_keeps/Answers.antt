@@ -2,14 +2,8 @@
 -- Assumes nothing.
 use mathlib.Core.Path.{ap}
 use mathlib.Core.Bool.{not}
-use mathlib.Core.Bool.{true}
-use mathlib.Core.Path.{◌≡◌}
-use Prim.Native.Nat.{◌≤◌, ◌-◌}
 use native.Mathlib.Omega.{arith}
-use Rattle.basics.specs.Choice.{every}
-use Rattle.model.specs.Devices.{device_keeps}
 use Rattle.basics.proofs.Loops.{no, yes, every-none, every_more, every-fails, every-all}
-use borrow.Author.Rules.{rules}
 use Rattle.device_list.proofs.each_keeps.Goals as goal
 
 pub returns-then-not-device_keeps : goal.returns-then-not-device_keeps

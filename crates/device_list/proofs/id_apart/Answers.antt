@@ -2,7 +2,7 @@
 -- Assumes nothing.
 use mathlib.Core.Bool.{not}
 use mathlib.Core.Path.{◌≡◌, refl, ◌∙◌}
-use Prim.Native.Nat.{◌+◌, ◌*◌, ◌≤◌, ◌-◌}
+use Prim.Native.Nat.{◌+◌, ◌*◌}
 use native.Mathlib.Numerals.{add-one}
 use native.Mathlib.Omega.{arith}
 use lib.ListN.{get_or}
@@ -10,7 +10,6 @@ use lib.Dec.{eqb}
 use Rattle.basics.specs.Choice.{every}
 use Rattle.model.specs.Layout.{device_in, device_words}
 use Rattle.names.proofs.Bytes.{both-pass}
-use borrow.Author.Rules.{rules}
 use Rattle.device_list.proofs.id_apart.Goals as goal
 
 pub loop-j-preserved : goal.loop-j-preserved

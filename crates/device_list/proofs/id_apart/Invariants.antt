@@ -1,15 +1,12 @@
 -- `device_list::id_apart` meets its contract: no device passed has the id.
 -- Assumes nothing.
 use mathlib.Core.Bool.{not}
-use mathlib.Core.Path.{◌≡◌, refl, ◌∙◌}
+use mathlib.Core.Path.{◌≡◌}
 use Prim.Native.Nat.{◌+◌, ◌*◌, ◌≤◌, ◌-◌}
-use native.Mathlib.Numerals.{add-one}
-use native.Mathlib.Omega.{arith}
 use lib.ListN.{get_or}
 use lib.Dec.{eqb}
 use Rattle.basics.specs.Choice.{every}
-use Rattle.model.specs.Layout.{device_in, device_words}
-use Rattle.names.proofs.Bytes.{both-pass}
+use Rattle.model.specs.Layout.{device_words}
 use Rattle.device_list.proofs.id_apart.Given as goal
 
 abbrev pub invariant-loop-j : goal.invariant-loop-j

@@ -1,7 +1,7 @@
 -- `device_list::ids_rise` meets its contract: each id passed is below the next.
 -- Assumes nothing.
 use mathlib.Core.Path.{◌≡◌, refl, sym, ◌∙◌}
-use Prim.Native.Nat.{◌+◌, ◌*◌, ◌≤◌, ◌-◌}
+use Prim.Native.Nat.{◌+◌, ◌*◌, ◌-◌}
 use native.Mathlib.Omega.{arith}
 use lib.ListN.{get_or}
 use lib.Dec.{ltb}
@@ -10,7 +10,6 @@ use Rattle.model.specs.Layout.{device_words}
 use Rattle.device_list.specs.Rising.{ids_rise}
 use Rattle.names.proofs.Bytes.{both-pass}
 use Rattle.device_list.proofs.Rising.{every-next}
-use borrow.Author.Rules.{rules}
 use Rattle.device_list.proofs.ids_rise.Goals as goal
 
 pub loop-j-preserved : goal.loop-j-preserved

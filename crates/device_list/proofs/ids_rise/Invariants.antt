@@ -1,15 +1,11 @@
 -- `device_list::ids_rise` meets its contract: each id passed is below the next.
 -- Assumes nothing.
-use mathlib.Core.Path.{◌≡◌, refl, sym, ◌∙◌}
+use mathlib.Core.Path.{◌≡◌}
 use Prim.Native.Nat.{◌+◌, ◌*◌, ◌≤◌, ◌-◌}
-use native.Mathlib.Omega.{arith}
 use lib.ListN.{get_or}
 use lib.Dec.{ltb}
 use Rattle.basics.specs.Choice.{every}
 use Rattle.model.specs.Layout.{device_words}
-use Rattle.device_list.specs.Rising.{ids_rise}
-use Rattle.names.proofs.Bytes.{both-pass}
-use Rattle.device_list.proofs.Rising.{every-next}
 use Rattle.device_list.proofs.ids_rise.Given as goal
 
 abbrev pub invariant-loop-j : goal.invariant-loop-j

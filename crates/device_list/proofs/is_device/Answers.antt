@@ -28,5 +28,4 @@ has_name-requires c =
 pub returns : goal.returns
 unfolding device_in
 returns c =
-    
     c.has_name.ensures ∙ device-named _ c.args.at c.args.i _ _ c.if-words-d.false

@@ -1,15 +1,11 @@
 -- `device_list::name_apart` meets its contract: no device passed has the id and the name.
 -- Assumes nothing.
-use mathlib.Core.Bool.{true, not}
-use mathlib.Core.Path.{◌≡◌, sym, ap, ◌∙◌}
-use Prim.Native.Nat.{◌≤◌, ◌-◌}
+use mathlib.Core.Bool.{not}
+use mathlib.Core.Path.{sym, ap, ◌∙◌}
 use native.Mathlib.Omega.{arith}
-use Rattle.basics.specs.Choice.{every}
-use Rattle.model.specs.Devices.{device_apart, is_device}
-use Rattle.model.specs.Layout.{device_in}
+use Rattle.model.specs.Devices.{device_apart}
 use Rattle.basics.proofs.Loops.{every-none, every_more, every-fails, every-all}
 use Rattle.device_list.proofs.Names.{keeps-name}
-use borrow.Author.Rules.{rules}
 use Rattle.device_list.proofs.name_apart.Goals as goal
 
 pub same_device-requires : goal.same_device-requires
@@ -20,12 +16,10 @@ same_device-requires c =
 pub returns-then-same_device : goal.returns-then-same_device
 unfolding device_apart
 returns-then-same_device c =
-    
     every-fails _ _ _ c.loop-j-test.true (ap not (sym c.same_device.ensures ∙ c.if-same_device.true))
 
 pub loop-j-preserved : goal.loop-j-preserved
 loop-j-preserved c =
-    
     (omega arith, every_more _ _ c.loop-j.invariant.1 (ap not (sym c.same_device.ensures ∙ c.if-same_device.false)))
 
 pub returns : goal.returns

@@ -1,14 +1,11 @@
 -- `device_list::name_apart` meets its contract: no device passed has the id and the name.
 -- Assumes nothing.
 use mathlib.Core.Bool.{true, not}
-use mathlib.Core.Path.{◌≡◌, sym, ap, ◌∙◌}
+use mathlib.Core.Path.{◌≡◌}
 use Prim.Native.Nat.{◌≤◌, ◌-◌}
-use native.Mathlib.Omega.{arith}
 use Rattle.basics.specs.Choice.{every}
-use Rattle.model.specs.Devices.{device_apart, is_device}
+use Rattle.model.specs.Devices.{is_device}
 use Rattle.model.specs.Layout.{device_in}
-use Rattle.basics.proofs.Loops.{every-none, every_more, every-fails, every-all}
-use Rattle.device_list.proofs.Names.{keeps-name}
 use Rattle.device_list.proofs.name_apart.Given as goal
 
 abbrev pub invariant-loop-j : goal.invariant-loop-j

@@ -1,13 +1,10 @@
 -- `device_list::named_device` meets its contract: the id and the name name no device passed.
 -- Assumes nothing.
 use mathlib.Core.Path.{sym, ◌∙◌}
-use Prim.Native.Nat.{◌≤◌, ◌-◌}
-use Rattle.model.specs.Devices.{is_device, named_device}
-use Rattle.model.specs.Layout.{device_in, first_device_word}
-use Rattle.basics.proofs.Loops.{NoneBelow, none_first, none_more, found_here, found_nowhere}
+use Rattle.model.specs.Devices.{named_device}
+use Rattle.basics.proofs.Loops.{none_first, none_more, found_here, found_nowhere}
 use Rattle.device_list.proofs.Names.{devices-few, devices-each, keeps-name}
 use native.Mathlib.Omega.{arith}
-use borrow.Author.Rules.{rules}
 use Rattle.device_list.proofs.named_device.Goals as goal
 
 pub is_device-requires : goal.is_device-requires
@@ -19,8 +16,6 @@ is_device-requires c =
 pub returns-then-is_device : goal.returns-then-is_device
 unfolding named_device
 returns-then-is_device c =
-    
-    
     found_here _ _ _ c.loop-i.invariant.1 c.loop-i-test.true (sym c.is_device.ensures ∙ c.if-is_device.true)
 
 pub overflow_add-i : goal.overflow_add-i
@@ -28,8 +23,6 @@ overflow_add-i c = omega (arith, devices-few _ _ _ c.requires)
 
 pub loop-i-preserved : goal.loop-i-preserved
 loop-i-preserved c =
-    
-    
     (omega arith, none_more _ _ c.loop-i.invariant.1 (sym c.is_device.ensures ∙ c.if-is_device.false))
 
 pub returns : goal.returns

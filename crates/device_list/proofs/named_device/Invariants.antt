@@ -1,12 +1,9 @@
 -- `device_list::named_device` meets its contract: the id and the name name no device passed.
 -- Assumes nothing.
-use mathlib.Core.Path.{sym, ◌∙◌}
 use Prim.Native.Nat.{◌≤◌, ◌-◌}
-use Rattle.model.specs.Devices.{is_device, named_device}
+use Rattle.model.specs.Devices.{is_device}
 use Rattle.model.specs.Layout.{device_in, first_device_word}
-use Rattle.basics.proofs.Loops.{NoneBelow, none_first, none_more, found_here, found_nowhere}
-use Rattle.device_list.proofs.Names.{devices-few, devices-each, keeps-name}
-use native.Mathlib.Omega.{arith}
+use Rattle.basics.proofs.Loops.{NoneBelow}
 use Rattle.device_list.proofs.named_device.Given as goal
 
 abbrev pub invariant-loop-i : goal.invariant-loop-i

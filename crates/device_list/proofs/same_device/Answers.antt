@@ -25,7 +25,6 @@ rules c = let p = c.requires in (rules-held _ _ _ p.3, rules-held _ _ _ p.2)
 
 pub same_names-requires : goal.same_names-requires
 same_names-requires c =
-    
     let p = c.requires in
     let few = (rules (search)).0.few in
     let few-too = (rules (search)).1.few in
@@ -34,6 +33,5 @@ same_names-requires c =
 pub returns : goal.returns
 unfolding device_in
 returns c =
-    
     c.same_names.ensures
     ∙ pair-named _ c.args.at c.args.i c.args.j c.if-words-a.false

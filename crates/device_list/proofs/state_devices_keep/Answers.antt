@@ -3,7 +3,6 @@
 use Rattle.basics.proofs.Loops.{refute}
 use Rattle.device_list.proofs.Names.{devices-few}
 use native.Mathlib.Omega.{arith}
-use borrow.Author.Rules.{rules}
 use Rattle.device_list.proofs.state_devices_keep.Goals as goal
 
 pub returns-then-n-gt-MOST_DEVICES : goal.returns-then-n-gt-MOST_DEVICES

@@ -12,7 +12,6 @@ use Rattle.model.specs.DeviceRequests.{device_name, has_name, operation_of}
 use Rattle.basics.proofs.Loops.{no, yes}
 use Rattle.devices.proofs.Laws.{name-long, no_name, no-type, formed}
 use native.Mathlib.Omega.{arith}
-use borrow.Author.Rules.{rules}
 use Rattle.devices.proofs.answer.Goals as goal
 use Rattle.devices.proofs.answer.Lts as lts
 use Rattle.devices.proofs.answer.Reads as reads

@@ -1,8 +1,6 @@
 -- `devices::ask` meets its contract: the device as it is after the request, its response, and its entry.
 -- Assumes nothing.
 use Rattle.devices.proofs.Laws.{ask-handles}
-use borrow.Author.Rules.{rules}
-use native.Mathlib.Omega.{arith}
 use Rattle.devices.proofs.ask.Goals as goal
 
 pub returns : goal.returns

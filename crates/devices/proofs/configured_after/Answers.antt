@@ -1,12 +1,8 @@
 -- `devices::configured_after` meets its contract: the cases of the definition.
 -- Assumes nothing.
-use mathlib.Core.Path.{ap}
-use mathlib.Core.Bool.{not}
 use mathlib.Core.Path.{sym}
 use borrow.Author.Tests.{eq-eqb, ne_eqb, not-true, not-false}
 use Rattle.basics.proofs.Choice.{and-false, and-false-right, join, pick_true, pick-false}
-use borrow.Author.Rules.{rules}
-use native.Mathlib.Omega.{arith}
 use Rattle.devices.proofs.configured_after.Goals as goal
 
 pub returns-then-not-o : goal.returns-then-not-o

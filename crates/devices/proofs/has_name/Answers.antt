@@ -8,7 +8,6 @@ use Rattle.wire.proofs.Laws.{byte-at}
 use Rattle.basics.proofs.Loops.{refute}
 use Rattle.devices.proofs.Laws.{name-long, name-ends, name-last}
 use native.Mathlib.Omega.{arith}
-use borrow.Author.Rules.{rules}
 use Rattle.devices.proofs.has_name.Goals as goal
 use Rattle.devices.proofs.has_name.Lts as lts
 use Rattle.devices.proofs.has_name.Reads as reads

@@ -5,7 +5,6 @@ use Rattle.model.specs.DeviceRequests.{device_for}
 use Rattle.model.proofs.Rules.{sound-facts}
 use Rattle.devices.proofs.Laws.{named-place}
 use native.Mathlib.Omega.{arith}
-use borrow.Author.Rules.{rules}
 use Rattle.devices.proofs.hear.Goals as goal
 
 pub ask-requires : goal.ask-requires

@@ -2,7 +2,7 @@
 -- Assumes nothing.
 use mathlib.Core.Bool.{not}
 use mathlib.Core.Path.{◌≡◌, refl, ◌∙◌}
-use Prim.Native.Nat.{◌+◌, ◌≤◌, ◌-◌}
+use Prim.Native.Nat.{◌+◌, ◌-◌}
 use native.Mathlib.Numerals.{add-one}
 use native.Mathlib.Omega.{arith}
 use lib.ListN.{get_or}
@@ -11,7 +11,6 @@ use Rattle.wire.specs.BigEndian.{byte_at}
 use Rattle.wire.proofs.Laws.{byte-at}
 use Rattle.basics.specs.Choice.{every}
 use Rattle.names.proofs.Bytes.{both-pass}
-use borrow.Author.Rules.{rules}
 use Rattle.devices.proofs.none_is_zero.Goals as goal
 
 pub loop-k-preserved : goal.loop-k-preserved

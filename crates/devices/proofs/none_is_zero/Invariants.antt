@@ -1,16 +1,11 @@
 -- `devices::none_is_zero` meets its contract: no byte passed is 0.
 -- Assumes nothing.
 use mathlib.Core.Bool.{not}
-use mathlib.Core.Path.{◌≡◌, refl, ◌∙◌}
+use mathlib.Core.Path.{◌≡◌}
 use Prim.Native.Nat.{◌+◌, ◌≤◌, ◌-◌}
-use native.Mathlib.Numerals.{add-one}
-use native.Mathlib.Omega.{arith}
-use lib.ListN.{get_or}
 use lib.Dec.{eqb}
 use Rattle.wire.specs.BigEndian.{byte_at}
-use Rattle.wire.proofs.Laws.{byte-at}
 use Rattle.basics.specs.Choice.{every}
-use Rattle.names.proofs.Bytes.{both-pass}
 use Rattle.devices.proofs.none_is_zero.Given as goal
 
 abbrev pub invariant-loop-k : goal.invariant-loop-k

@@ -4,8 +4,6 @@ use mathlib.Core.Path.{sym, ◌∙◌}
 use borrow.Author.Tests.{eq-eqb, ne_eqb}
 use Rattle.model.specs.DeviceRequests.{operation_of}
 use Rattle.basics.proofs.Choice.{pick_true, pick-false}
-use borrow.Author.Rules.{rules}
-use native.Mathlib.Omega.{arith}
 use Rattle.devices.proofs.operation.Goals as goal
 
 pub returns-then-message_type-eq-DR_VIO_CONFIGURE : goal.returns-then-message_type-eq-DR_VIO_CONFIGURE

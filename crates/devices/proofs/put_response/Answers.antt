@@ -2,7 +2,6 @@
 -- Assumes nothing.
 use lib.ListN.{length-set}
 use Rattle.devices.proofs.Laws.{response-stored}
-use native.Mathlib.Omega.{arith}
 use borrow.Author.Rules.{rules}
 use Rattle.devices.proofs.put_response.Goals as goal
 

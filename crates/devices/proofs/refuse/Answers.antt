@@ -1,8 +1,6 @@
 -- `devices::refuse` meets its contract: the response, and its entry.
 -- Assumes nothing.
 use Rattle.devices.proofs.Laws.{refuse-handles}
-use borrow.Author.Rules.{rules}
-use native.Mathlib.Omega.{arith}
 use Rattle.devices.proofs.refuse.Goals as goal
 
 pub returns : goal.returns

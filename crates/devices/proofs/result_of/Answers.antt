@@ -1,11 +1,7 @@
 -- `devices::result_of` meets its contract: the cases of the definition.
 -- Assumes nothing.
-use mathlib.Core.Path.{ap}
-use mathlib.Core.Bool.{not}
 use borrow.Author.Tests.{not-true, not-false}
 use Rattle.devices.proofs.Laws.{result-status, result-already, result-blocked, result-forced, result-free}
-use borrow.Author.Rules.{rules}
-use native.Mathlib.Omega.{arith}
 use Rattle.devices.proofs.result_of.Goals as goal
 
 pub returns-then-configured-o : goal.returns-then-configured-o

@@ -4,8 +4,6 @@ use mathlib.Core.Path.{sym}
 use borrow.Author.Tests.{eq-eqb, ne_eqb}
 use Rattle.model.specs.DeviceRequests.{device_status}
 use Rattle.basics.proofs.Choice.{pick_true, pick-false}
-use borrow.Author.Rules.{rules}
-use native.Mathlib.Omega.{arith}
 use Rattle.devices.proofs.status_of.Goals as goal
 
 pub returns-then-configured-eq1 : goal.returns-then-configured-eq1

@@ -2,8 +2,6 @@
 -- Assumes nothing.
 use mathlib.Core.Path.{sym}
 use Rattle.basics.proofs.Choice.{pick_true, pick-false}
-use borrow.Author.Rules.{rules}
-use native.Mathlib.Omega.{arith}
 use Rattle.devices.proofs.unknown_result.Goals as goal
 
 pub returns-then-changes : goal.returns-then-changes

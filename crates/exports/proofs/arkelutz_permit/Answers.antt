@@ -1,5 +1,3 @@
-use borrow.Author.Rules.{rules}
-use native.Mathlib.Omega.{arith}
 use Rattle.exports.proofs.arkelutz_permit.Goals as goal
 
 pub returns : goal.returns

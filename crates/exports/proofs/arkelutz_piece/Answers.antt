@@ -2,7 +2,6 @@
 -- Assumes nothing.
 use native.Mathlib.Omega.{arith}
 use Rattle.exports.proofs.Given.{given-as}
-use borrow.Author.Rules.{rules}
 use Rattle.exports.proofs.arkelutz_piece.Goals as goal
 
 pub returns-then-a : goal.returns-then-a

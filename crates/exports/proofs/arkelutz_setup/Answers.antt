@@ -1,8 +1,6 @@
 -- `exports::arkelutz_setup` meets its contract: it is the agent's.
 -- The fact is named, so that a wrong version is refused at once. Assumes nothing.
 
-use borrow.Author.Rules.{rules}
-use native.Mathlib.Omega.{arith}
 use Rattle.exports.proofs.arkelutz_setup.Goals as goal
 
 pub returns : goal.returns

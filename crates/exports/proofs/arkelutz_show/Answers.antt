@@ -1,8 +1,6 @@
 use mathlib.Core.Path.{ap}
 use lib.ListN.{length}
 use Rattle.exports.proofs.Part.{part-shown}
-use borrow.Author.Rules.{rules}
-use native.Mathlib.Omega.{arith}
 use Rattle.exports.proofs.arkelutz_show.Goals as goal
 
 pub returns : goal.returns

@@ -4,7 +4,6 @@ use native.Mathlib.Omega.{arith}
 use Rattle.front.proofs.Joined.{byte-before, byte-behind}
 use Prim.Native.Nat.{◌-◌}
 use lib.ListN.{length}
-use borrow.Author.Rules.{rules}
 use Rattle.front.proofs.byte_at.Goals as goal
 
 pub overflow_cast-result : goal.overflow_cast-result

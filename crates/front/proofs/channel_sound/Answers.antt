@@ -5,7 +5,6 @@ use Rattle.front_model.specs.Front.{kept_at, most_kept, Front, unfinished}
 use native.Mathlib.Omega.{arith}
 use mathlib.Core.Path.{sym, ap, ◌∙◌}
 use Rattle.front.proofs.Sounds.{sound-many, sound-keeping, sound-marked, sound-dropping}
-use borrow.Author.Rules.{rules}
 use Rattle.front.proofs.channel_sound.Goals as goal
 use Rattle.front.proofs.channel_sound.Lts as lts
 use Rattle.front.proofs.channel_sound.Reads as reads

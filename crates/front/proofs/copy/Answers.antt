@@ -1,12 +1,10 @@
 -- `front::copy` meets its contract: the loop's invariant is that the bytes passed are stored, and the measure the bytes left.
 -- Assumes nothing.
 use native.Mathlib.Omega.{arith}
-use mathlib.Core.Path.{◌≡◌, refl, ap, ◌∙◌}
-use Prim.Native.Nat.{◌≤◌, ◌-◌}
-use lib.ListN.{length, take}
+use mathlib.Core.Path.{refl, ap, ◌∙◌}
+use Prim.Native.Nat.{◌-◌}
 use lib.Seq.{sets, take_all}
 use Rattle.wire.proofs.Laws.{sets_more}
-use borrow.Author.Rules.{rules}
 use Rattle.front.proofs.copy.Goals as goal
 
 pub loop-i-preserved : goal.loop-i-preserved

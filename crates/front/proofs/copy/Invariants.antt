@@ -1,11 +1,9 @@
 -- `front::copy` meets its contract: the loop's invariant is that the bytes passed are stored, and the measure the bytes left.
 -- Assumes nothing.
-use native.Mathlib.Omega.{arith}
-use mathlib.Core.Path.{◌≡◌, refl, ap, ◌∙◌}
+use mathlib.Core.Path.{◌≡◌}
 use Prim.Native.Nat.{◌≤◌, ◌-◌}
 use lib.ListN.{length, take}
-use lib.Seq.{sets, take_all}
-use Rattle.wire.proofs.Laws.{sets_more}
+use lib.Seq.{sets}
 use Rattle.front.proofs.copy.Given as goal
 
 abbrev pub invariant-loop-i : goal.invariant-loop-i

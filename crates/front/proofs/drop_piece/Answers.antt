@@ -2,8 +2,6 @@
 -- Assumes nothing.
 use mathlib.Core.Path.{sym, ◌∙◌}
 use Rattle.front.proofs.Pieces.{piece-refused, piece-dropped}
-use borrow.Author.Rules.{rules}
-use native.Mathlib.Omega.{arith}
 use Rattle.front.proofs.drop_piece.Goals as goal
 
 pub returns-then-refusal-ne0 : goal.returns-then-refusal-ne0

@@ -4,13 +4,9 @@ use mathlib.Core.Path.{ap}
 use mathlib.Core.Bool.{not}
 use native.Mathlib.Omega.{arith}
 use mathlib.Core.Bool.{true}
-use mathlib.Core.Path.{◌≡◌}
-use Prim.Native.Nat.{◌≤◌, ◌-◌}
-use Rattle.basics.specs.Choice.{every}
-use Rattle.model.specs.Layout.{channel_count}
-use Rattle.front_model.specs.Front.{front_sound, front_sound_at}
+use Prim.Native.Nat.{◌-◌}
+use Rattle.front_model.specs.Front.{front_sound}
 use Rattle.basics.proofs.Loops.{no, yes, every-none, every_more, every-fails, every-all}
-use borrow.Author.Rules.{rules}
 use Rattle.front.proofs.front_sound.Goals as goal
 
 pub returns-then-not-channel_sound : goal.returns-then-not-channel_sound

@@ -1,13 +1,11 @@
 -- `front::front_sound` meets its contract: every channel passed is sound.
 -- Assumes nothing.
-use native.Mathlib.Omega.{arith}
 use mathlib.Core.Bool.{true}
 use mathlib.Core.Path.{◌≡◌}
 use Prim.Native.Nat.{◌≤◌, ◌-◌}
 use Rattle.basics.specs.Choice.{every}
 use Rattle.model.specs.Layout.{channel_count}
-use Rattle.front_model.specs.Front.{front_sound, front_sound_at}
-use Rattle.basics.proofs.Loops.{no, yes, every-none, every_more, every-fails, every-all}
+use Rattle.front_model.specs.Front.{front_sound_at}
 use Rattle.front.proofs.front_sound.Given as goal
 
 abbrev pub invariant-loop-c : goal.invariant-loop-c

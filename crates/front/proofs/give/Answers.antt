@@ -3,8 +3,6 @@
 use mathlib.Core.Path.{sym, ◌∙◌}
 use Rattle.basics.proofs.Choice.{pick_true, pick-false}
 use borrow.Author.Tests.{eq-eqb, ne_eqb}
-use borrow.Author.Rules.{rules}
-use native.Mathlib.Omega.{arith}
 use Rattle.front.proofs.give.Goals as goal
 
 pub returns-then-answer-ne0 : goal.returns-then-answer-ne0

@@ -10,7 +10,6 @@ use borrow.Author.Tests.{eq-eqb}
 use Rattle.basics.proofs.Choice.{pick_true}
 use Rattle.front_model.specs.Front.{Front, kept_at, most_message}
 use Rattle.front.proofs.Pieces.{answer-none, give-refused, gives-by, kept-length, message-joined}
-use borrow.Author.Rules.{rules}
 use Rattle.front.proofs.give_joined.Goals as goal
 use Rattle.front.proofs.give_joined.Lts as lts
 use Rattle.front.proofs.give_joined.Reads as reads

@@ -9,7 +9,6 @@ use borrow.Author.Tests.{eq-eqb, ne_eqb}
 use Rattle.basics.proofs.Choice.{pick_true, pick-false}
 use Rattle.front_model.specs.Front.{Front}
 use Rattle.front.proofs.Pieces.{gives-by, kept-length, message-whole}
-use borrow.Author.Rules.{rules}
 use Rattle.front.proofs.give_whole.Goals as goal
 
 pub slice_bounds-give-end : goal.slice_bounds-give-end

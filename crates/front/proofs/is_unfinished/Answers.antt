@@ -3,8 +3,6 @@
 use borrow.Author.Tests.{lt-ltb, le-ltb, le-leb, lt-leb}
 use Rattle.basics.specs.Choice.{◌and◌, ◌or◌}
 use Rattle.front_model.specs.Front.{unfinished}
-use borrow.Author.Rules.{rules}
-use native.Mathlib.Omega.{arith}
 use Rattle.front.proofs.is_unfinished.Goals as goal
 
 pub returns-then-payload_len-gt-MOST_PAYLOAD : goal.returns-then-payload_len-gt-MOST_PAYLOAD

@@ -6,7 +6,6 @@ use Prim.Native.Nat.{◌+◌, ◌≤◌}
 use lib.ListN.{length}
 use Rattle.front_model.specs.Front.{Front, most_kept}
 use Rattle.front.proofs.Pieces.{piece-refused, piece-kept, kept-length}
-use borrow.Author.Rules.{rules}
 use Rattle.front.proofs.keep_piece.Goals as goal
 use Rattle.front.proofs.keep_piece.Lts as lts
 use Rattle.front.proofs.keep_piece.Reads as reads

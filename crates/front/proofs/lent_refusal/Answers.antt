@@ -7,8 +7,6 @@ use Rattle.basics.specs.Choice.{pick}
 use Rattle.model.specs.Refusals.{refusal_in}
 use Rattle.basics.proofs.Loops.{no, yes}
 use Rattle.front.specs.Refusals.{lent_refusal}
-use borrow.Author.Rules.{rules}
-use native.Mathlib.Omega.{arith}
 use Rattle.front.proofs.lent_refusal.Goals as goal
 
 pub returns-then-words-ne-JOURNAL_WORDS : goal.returns-then-words-ne-JOURNAL_WORDS

@@ -5,8 +5,6 @@ use mathlib.Core.Path.{refl}
 use Rattle.basics.proofs.Choice.{clash}
 use borrow.Author.Tests.{leb-true, leb-false}
 use Rattle.front.proofs.Joined.{keeps-few, keeps-more, gives-long, gives_whole}
-use borrow.Author.Rules.{rules}
-use native.Mathlib.Omega.{arith}
 use Rattle.front.proofs.next_of.Goals as goal
 
 pub returns-then-count-lt-DS_HEADER_BYTES : goal.returns-then-count-lt-DS_HEADER_BYTES

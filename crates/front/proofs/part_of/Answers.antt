@@ -4,7 +4,6 @@ use native.Mathlib.Omega.{arith}
 use mathlib.Core.Path.{◌≡◌}
 use Prim.Native.Nat.{◌+◌, ◌-◌, ◌*◌}
 use Rattle.front_model.specs.Front.{most_message}
-use borrow.Author.Rules.{rules}
 use Rattle.front.proofs.part_of.Goals as goal
 
 pub returns : goal.returns

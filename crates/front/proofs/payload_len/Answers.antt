@@ -4,7 +4,6 @@ use native.Mathlib.Omega.{arith}
 use mathlib.Core.Path.{sym, ◌∙◌}
 use Rattle.front.proofs.Joined.{number-before, number_behind}
 use Rattle.wire.specs.BigEndian.{number_at}
-use borrow.Author.Rules.{rules}
 use Rattle.front.proofs.payload_len.Goals as goal
 
 pub returns-then-kept-le4 : goal.returns-then-kept-le4

@@ -6,8 +6,6 @@ use mathlib.Core.Path.{sym, ◌∙◌}
 use Rattle.basics.proofs.Loops.{no, yes}
 use Rattle.front.specs.Changes.{Fronts}
 use Rattle.front.proofs.Pieces.{piece-outside, piece-unsound}
-use borrow.Author.Rules.{rules}
-use native.Mathlib.Omega.{arith}
 use Rattle.front.proofs.piece.Goals as goal
 use Rattle.front.proofs.piece.Lts as lts
 use Rattle.front.proofs.piece.Reads as reads

@@ -8,7 +8,6 @@ use Rattle.basics.proofs.Loops.{no, yes}
 use Rattle.front.specs.Changes.{Fronts}
 use Rattle.front.specs.Refusals.{opening_refusal}
 use Rattle.front.proofs.Reopens.{reopen-unsound, reopen-refused, reopen-done, opening-within}
-use borrow.Author.Rules.{rules}
 use Rattle.front.proofs.reopen.Goals as goal
 use Rattle.front.proofs.reopen.Lts as lts
 use Rattle.front.proofs.reopen.Reads as reads

@@ -7,8 +7,6 @@ use Rattle.basics.specs.Choice.{pick}
 use Rattle.model.specs.Refusals.{refusal_in}
 use Rattle.basics.proofs.Loops.{no, yes}
 use Rattle.front.specs.Refusals.{opening_refusal}
-use borrow.Author.Rules.{rules}
-use native.Mathlib.Omega.{arith}
 use Rattle.front.proofs.reopen_refusal.Goals as goal
 
 pub returns-then-channel-ge-CHANNEL_COUNT : goal.returns-then-channel-ge-CHANNEL_COUNT

@@ -1,6 +1,5 @@
 -- `front::take_piece` meets its contract: what the piece comes to decides which of the three takes it.
 -- Assumes nothing.
-use mathlib.Core.Bool.{not}
 use mathlib.Core.Path.{◌≡◌, sym, ap, ◌∙◌, subst}
 use mathlib.Core.List.{List}
 use Prim.Native.Nat.{ℕ, ◌*◌}
@@ -11,7 +10,6 @@ use Rattle.front_model.specs.Front.{Front, bytes_at, most_message}
 use Rattle.front.specs.Next.{Comes}
 use Rattle.front.proofs.Changes.{few-kept}
 use Rattle.front.proofs.Pieces.{begins}
-use borrow.Author.Rules.{rules}
 use Rattle.front.proofs.take_piece.Goals as goal
 use Rattle.front.proofs.take_piece.Lts as lts
 use Rattle.front.proofs.take_piece.Reads as reads

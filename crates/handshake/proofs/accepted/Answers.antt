@@ -3,8 +3,6 @@
 use mathlib.Core.Path.{subst}
 use Rattle.handshake.proofs.Laws.{ignored, became, sends}
 use Rattle.vio_model.specs.Calls.{silent, Fits}
-use borrow.Author.Rules.{rules}
-use native.Mathlib.Omega.{arith}
 use Rattle.handshake.proofs.accepted.Goals as goal
 
 pub pack-words-requires : goal.pack-words-requires

@@ -1,15 +1,12 @@
 -- `handshake::new_end` meets its contract: the words passed are copied.
 -- Assumes nothing.
 use native.Mathlib.Omega.{arith}
-use Prim.Native.Nat.{◌≤◌, ◌-◌}
-use mathlib.Core.Path.{◌≡◌}
-use lib.ListN.{length}
-use lib.Seq.{paste, paste-zero}
+use Prim.Native.Nat.{◌-◌}
+use lib.Seq.{paste-zero}
 use Rattle.handshake.proofs.Laws.{copies-more, copied, blank-length}
 use Rattle.vio_model.specs.Layout.{first_version_word}
 use Rattle.vio_model.specs.Versions.{count_of}
 use Rattle.vio_model.specs.Calls.{blank_end, new_end}
-use borrow.Author.Rules.{rules}
 use Rattle.handshake.proofs.new_end.Goals as goal
 
 pub loop-i-init : goal.loop-i-init

@@ -10,8 +10,6 @@ use Rattle.handshake.proofs.Laws.{receive-refused, receive-accepted}
 use Rattle.basics.proofs.Loops.{yes}
 use Rattle.vio_model.proofs.Words.{sound-facts}
 use Rattle.vio_model.proofs.Kept.{receive-fits}
-use borrow.Author.Rules.{rules}
-use native.Mathlib.Omega.{arith}
 use Rattle.handshake.proofs.receive.Goals as goal
 
 pub returns-then-not-sound : goal.returns-then-not-sound

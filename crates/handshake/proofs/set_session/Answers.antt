@@ -1,8 +1,6 @@
 -- `handshake::set_session` meets its contract: by the session's case.
 -- Assumes nothing.
 use Rattle.vio_model.specs.Layout.{with_session, session_words}
-use borrow.Author.Rules.{rules}
-use native.Mathlib.Omega.{arith}
 use Rattle.handshake.proofs.set_session.Goals as goal
 
 pub returns-in-Nothing : goal.returns-in-Nothing

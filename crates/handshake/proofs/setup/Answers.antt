@@ -7,7 +7,6 @@ use Rattle.basics.specs.Choice.{pick}
 use Rattle.basics.proofs.Loops.{no, yes}
 use Rattle.vio_model.specs.Calls.{ready}
 use Rattle.vio_model.proofs.Versions.{list-rules}
-use borrow.Author.Rules.{rules}
 use Rattle.handshake.proofs.setup.Goals as goal
 
 pub returns-then-not-accepted_list : goal.returns-then-not-accepted_list

@@ -8,8 +8,6 @@ use Rattle.handshake.proofs.Laws.{start-refused, start-accepted}
 use Rattle.basics.proofs.Loops.{yes}
 use Rattle.vio_model.proofs.Words.{sound-facts}
 use Rattle.vio_model.proofs.Kept.{start_fits}
-use borrow.Author.Rules.{rules}
-use native.Mathlib.Omega.{arith}
 use Rattle.handshake.proofs.start.Goals as goal
 
 pub returns-then-not-sound : goal.returns-then-not-sound

@@ -4,7 +4,6 @@ use mathlib.Core.Path.{sym, ◌∙◌}
 use native.Mathlib.Omega.{arith}
 use Rattle.basics.proofs.Loops.{refute}
 use Rattle.id_list.proofs.Ids.{accepted-rules, accepted-last}
-use borrow.Author.Rules.{rules}
 use Rattle.id_list.proofs.accepted_ids.Goals as goal
 
 pub returns-then-l-ne0 : goal.returns-then-l-ne0

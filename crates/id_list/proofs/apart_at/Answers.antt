@@ -3,7 +3,7 @@
 use native.Mathlib.Omega.{arith}
 use mathlib.Core.Bool.{not}
 use mathlib.Core.Path.{◌≡◌, refl, ◌∙◌}
-use Prim.Native.Nat.{◌+◌, ◌≤◌, ◌-◌}
+use Prim.Native.Nat.{◌+◌, ◌-◌}
 use native.Mathlib.Numerals.{add-one}
 use lib.ListN.{get_or}
 use lib.Dec.{eqb}
@@ -11,7 +11,6 @@ use Rattle.basics.specs.Choice.{every}
 use Rattle.model.specs.Layout.{most_ids}
 use Rattle.names.proofs.Bytes.{both-pass}
 use Rattle.id_list.specs.Hashes.{apart_at}
-use borrow.Author.Rules.{rules}
 use Rattle.id_list.proofs.apart_at.Goals as goal
 
 pub loop-k-preserved : goal.loop-k-preserved

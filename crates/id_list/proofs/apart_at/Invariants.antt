@@ -1,16 +1,12 @@
 -- `id_list::apart_at` meets its contract: no hash passed is the one so many places on.
 -- Assumes nothing.
-use native.Mathlib.Omega.{arith}
 use mathlib.Core.Bool.{not}
-use mathlib.Core.Path.{◌≡◌, refl, ◌∙◌}
+use mathlib.Core.Path.{◌≡◌}
 use Prim.Native.Nat.{◌+◌, ◌≤◌, ◌-◌}
-use native.Mathlib.Numerals.{add-one}
 use lib.ListN.{get_or}
 use lib.Dec.{eqb}
 use Rattle.basics.specs.Choice.{every}
 use Rattle.model.specs.Layout.{most_ids}
-use Rattle.names.proofs.Bytes.{both-pass}
-use Rattle.id_list.specs.Hashes.{apart_at}
 use Rattle.id_list.proofs.apart_at.Given as goal
 
 abbrev pub invariant-loop-k : goal.invariant-loop-k

@@ -3,14 +3,11 @@
 use mathlib.Core.Path.{ap}
 use mathlib.Core.Bool.{not}
 use mathlib.Core.Bool.{true}
-use mathlib.Core.Path.{◌≡◌}
-use Prim.Native.Nat.{◌≤◌, ◌-◌}
+use Prim.Native.Nat.{◌-◌}
 use native.Mathlib.Omega.{arith}
-use Rattle.basics.specs.Choice.{every}
 use Rattle.model.specs.Peers.{id_apart}
 use Rattle.basics.proofs.Choice.{every-at, every-make}
 use Rattle.basics.proofs.Loops.{no, yes, every-none, every_more, every-fails, every-all}
-use borrow.Author.Rules.{rules}
 use Rattle.id_list.proofs.each_apart.Goals as goal
 
 pub id_apart-requires : goal.id_apart-requires
@@ -21,12 +18,10 @@ id_apart-requires c =
 
 pub returns-then-not-id_apart : goal.returns-then-not-id_apart
 returns-then-not-id_apart c =
-    
     every-fails _ _ _ c.loop-p-test.true (no _ c.id_apart.ensures (ap not c.if-not-id_apart.true))
 
 pub loop-p-preserved : goal.loop-p-preserved
 loop-p-preserved c =
-    
     (omega arith, every_more _ _ c.loop-p.invariant.1 (yes _ c.id_apart.ensures (ap not c.if-not-id_apart.false)))
 
 pub returns : goal.returns

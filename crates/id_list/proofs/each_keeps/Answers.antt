@@ -3,17 +3,13 @@
 use mathlib.Core.Bool.{not}
 use mathlib.Core.Bool.{true}
 use mathlib.Core.Path.{◌≡◌, refl, ap, ◌∙◌}
-use Prim.Native.Nat.{◌*◌, ◌<◌, ◌≤◌, ◌-◌}
+use Prim.Native.Nat.{◌<◌, ◌-◌}
 use native.Mathlib.Omega.{arith}
-use lib.ListN.{length}
-use Rattle.basics.specs.Choice.{every}
 use Rattle.model.specs.Layout.{most_ids}
-use Rattle.model.specs.Peers.{id_keeps}
 use Rattle.basics.proofs.Choice.{clash}
 use Rattle.basics.proofs.Loops.{no, yes, every-none, every_more, every-fails, every-all}
-use Rattle.id_list.specs.Hashes.{HashesStand, folded}
+use Rattle.id_list.specs.Hashes.{folded}
 use Rattle.id_list.proofs.Hashes.{hashed-more, none-hashed, still-long}
-use borrow.Author.Rules.{rules}
 use Rattle.id_list.proofs.each_keeps.Goals as goal
 
 pub loop-p-init : goal.loop-p-init

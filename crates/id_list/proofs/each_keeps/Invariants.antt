@@ -1,17 +1,13 @@
 -- `id_list::each_keeps` meets its contract: every id passed keeps the rules, and its hash stands at its two places.
 -- Assumes nothing.
 use mathlib.Core.Bool.{true}
-use mathlib.Core.Path.{◌≡◌, refl, ap, ◌∙◌}
-use Prim.Native.Nat.{◌*◌, ◌<◌, ◌≤◌, ◌-◌}
-use native.Mathlib.Omega.{arith}
+use mathlib.Core.Path.{◌≡◌}
+use Prim.Native.Nat.{◌*◌, ◌≤◌, ◌-◌}
 use lib.ListN.{length}
 use Rattle.basics.specs.Choice.{every}
 use Rattle.model.specs.Layout.{most_ids}
 use Rattle.model.specs.Peers.{id_keeps}
-use Rattle.basics.proofs.Choice.{clash}
-use Rattle.basics.proofs.Loops.{no, yes, every-none, every_more, every-fails, every-all}
-use Rattle.id_list.specs.Hashes.{HashesStand, folded}
-use Rattle.id_list.proofs.Hashes.{hashed-more, none-hashed, still-long}
+use Rattle.id_list.specs.Hashes.{HashesStand}
 use Rattle.id_list.proofs.each_keeps.Given as goal
 
 abbrev pub invariant-loop-p : goal.invariant-loop-p

@@ -1,11 +1,9 @@
 -- `id_list::first_hashes` meets its contract: what is written stands within the hashes.
 -- Assumes nothing.
 use native.Mathlib.Omega.{arith}
-use mathlib.Core.Path.{◌≡◌, refl}
-use Prim.Native.Nat.{◌*◌, ◌≤◌, ◌-◌}
-use lib.ListN.{length, length-set}
-use Rattle.model.specs.Layout.{most_ids}
-use borrow.Author.Rules.{rules}
+use mathlib.Core.Path.{refl}
+use Prim.Native.Nat.{◌-◌}
+use lib.ListN.{length-set}
 use Rattle.id_list.proofs.first_hashes.Goals as goal
 
 pub loop-p-init : goal.loop-p-init

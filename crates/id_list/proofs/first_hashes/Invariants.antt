@@ -1,9 +1,8 @@
 -- `id_list::first_hashes` meets its contract: what is written stands within the hashes.
 -- Assumes nothing.
-use native.Mathlib.Omega.{arith}
-use mathlib.Core.Path.{◌≡◌, refl}
+use mathlib.Core.Path.{◌≡◌}
 use Prim.Native.Nat.{◌*◌, ◌≤◌, ◌-◌}
-use lib.ListN.{length, length-set}
+use lib.ListN.{length}
 use Rattle.model.specs.Layout.{most_ids}
 use Rattle.id_list.proofs.first_hashes.Given as goal
 

@@ -2,8 +2,6 @@
 -- Assumes nothing.
 use mathlib.Core.Path.{refl}
 use Rattle.id_list.specs.Hashes.{folded}
-use borrow.Author.Rules.{rules}
-use native.Mathlib.Omega.{arith}
 use Rattle.id_list.proofs.folded.Goals as goal
 
 pub returns : goal.returns

@@ -6,7 +6,6 @@ use Rattle.basics.proofs.Choice.{clash}
 use Rattle.basics.proofs.Loops.{refute}
 use Rattle.id_list.proofs.Ids.{id-rules, id-last}
 use native.Mathlib.Omega.{arith}
-use borrow.Author.Rules.{rules}
 use Rattle.id_list.proofs.hashed_id.Goals as goal
 
 pub returns-then-words-d-gt-HIGHEST_MINOR : goal.returns-then-words-d-gt-HIGHEST_MINOR

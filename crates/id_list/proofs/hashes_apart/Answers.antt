@@ -2,13 +2,12 @@
 -- Assumes nothing.
 use native.Mathlib.Omega.{arith}
 use mathlib.Core.Path.{◌≡◌, refl, ◌∙◌}
-use Prim.Native.Nat.{◌+◌, ◌/◌, ◌≤◌, ◌-◌}
+use Prim.Native.Nat.{◌/◌, ◌-◌}
 use native.Mathlib.Numerals.{add-one}
 use Rattle.basics.specs.Choice.{every}
 use Rattle.model.specs.Layout.{most_ids}
 use Rattle.names.proofs.Bytes.{both-pass}
-use Rattle.id_list.specs.Hashes.{apart_at, hashes_apart}
-use borrow.Author.Rules.{rules}
+use Rattle.id_list.specs.Hashes.{hashes_apart}
 use Rattle.id_list.proofs.hashes_apart.Goals as goal
 
 pub loop-d-preserved : goal.loop-d-preserved

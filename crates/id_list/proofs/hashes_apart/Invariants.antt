@@ -1,13 +1,10 @@
 -- `id_list::hashes_apart` meets its contract: no hash is the one at a distance passed.
 -- Assumes nothing.
-use native.Mathlib.Omega.{arith}
-use mathlib.Core.Path.{◌≡◌, refl, ◌∙◌}
+use mathlib.Core.Path.{◌≡◌}
 use Prim.Native.Nat.{◌+◌, ◌/◌, ◌≤◌, ◌-◌}
-use native.Mathlib.Numerals.{add-one}
 use Rattle.basics.specs.Choice.{every}
 use Rattle.model.specs.Layout.{most_ids}
-use Rattle.names.proofs.Bytes.{both-pass}
-use Rattle.id_list.specs.Hashes.{apart_at, hashes_apart}
+use Rattle.id_list.specs.Hashes.{apart_at}
 use Rattle.id_list.proofs.hashes_apart.Given as goal
 
 abbrev pub invariant-loop-d : goal.invariant-loop-d

@@ -2,8 +2,7 @@
 -- Assumes nothing.
 use mathlib.Core.Bool.{true, not}
 use mathlib.Core.Path.{◌≡◌, sym, ap, ◌∙◌}
-use Prim.Native.Nat.{ℕ, ◌≤◌, ◌-◌}
-use Rattle.basics.specs.Choice.{every}
+use Prim.Native.Nat.{ℕ, ◌-◌}
 use Rattle.model.specs.Devices.{same_name}
 use Rattle.model.specs.Layout.{id_in}
 use Rattle.model.specs.Peers.{id_apart}
@@ -38,12 +37,10 @@ same c = sym (pair_same _ _ _ _) ∙ sym c.same_names.ensures
 pub returns-then-same_names : goal.returns-then-same_names
 unfolding id_apart
 returns-then-same_names c =
-    
     every-fails _ _ _ c.loop-q-test.true (ap not (same (search) ∙ c.if-same_names.true))
 
 pub loop-q-preserved : goal.loop-q-preserved
 loop-q-preserved c =
-    
     (omega arith, every_more _ _ c.loop-q.invariant.1 (ap not (same (search) ∙ c.if-same_names.false)))
 
 pub returns : goal.returns

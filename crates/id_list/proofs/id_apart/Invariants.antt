@@ -1,15 +1,11 @@
 -- `id_list::id_apart` meets its contract: no id passed has its bytes.
 -- Assumes nothing.
 use mathlib.Core.Bool.{true, not}
-use mathlib.Core.Path.{◌≡◌, sym, ap, ◌∙◌}
-use Prim.Native.Nat.{ℕ, ◌≤◌, ◌-◌}
+use mathlib.Core.Path.{◌≡◌}
+use Prim.Native.Nat.{◌≤◌, ◌-◌}
 use Rattle.basics.specs.Choice.{every}
 use Rattle.model.specs.Devices.{same_name}
 use Rattle.model.specs.Layout.{id_in}
-use Rattle.model.specs.Peers.{id_apart}
-use Rattle.basics.proofs.Loops.{every-none, every_more, every-fails, every-all}
-use Rattle.id_list.proofs.Ids.{BytesRules, bytes-rules, id-at, id-rules, pair_same}
-use native.Mathlib.Omega.{arith}
 use Rattle.id_list.proofs.id_apart.Given as goal
 
 abbrev pub invariant-loop-q : goal.invariant-loop-q

@@ -11,7 +11,6 @@ use Rattle.basics.proofs.Choice.{clash}
 use Rattle.basics.proofs.Loops.{refute, no, yes}
 use Rattle.id_list.proofs.Ids.{ids-rules, ids-last}
 use Rattle.id_list.proofs.Hashes.{hashes-decide}
-use borrow.Author.Rules.{rules}
 use Rattle.id_list.proofs.keep_apart.Goals as goal
 use Rattle.id_list.proofs.keep_apart.Lts as lts
 use Rattle.id_list.proofs.keep_apart.Reads as reads
@@ -26,7 +25,6 @@ each c = yes _ c.each_keeps.ensures.0 (ap not c.if-not-each_keeps.false)
 
 pub returns-then-hashes_apart : goal.returns-then-hashes_apart
 returns-then-hashes_apart c =
-    
     let k = c.each_keeps.ensures in
     let few = c.requires.0 in
     sym (hashes-decide _ (λ i. omega (arith, c.shared_slice_known-1.given i)) _ _ few (each (search)) _ (k.1 (k.0 ∙ each (search))) (sym c.hashes_apart.ensures ∙ c.if-hashes_apart.true))
@@ -37,5 +35,4 @@ each_apart-requires c = (c.requires.1, each (search))
 
 pub returns : goal.returns
 returns c =
-    
     c.each_apart.ensures ∙ ids-last _ _ _ c.requires.0 (each (search))

@@ -4,7 +4,6 @@ use mathlib.Core.Path.{sym}
 use native.Mathlib.Omega.{arith}
 use Rattle.basics.proofs.Loops.{refute}
 use Rattle.id_list.proofs.Ids.{ids-rules, ids-none}
-use borrow.Author.Rules.{rules}
 use Rattle.id_list.proofs.keep_rules.Goals as goal
 
 pub returns-then-n-gt-MOST_IDS : goal.returns-then-n-gt-MOST_IDS

@@ -1,11 +1,11 @@
 -- `id_list::listed_id` meets its contract: no id passed has the bytes.
 -- Assumes nothing.
 use mathlib.Core.Path.{◌≡◌, sym, ◌∙◌}
-use Prim.Native.Nat.{◌≤◌, ◌-◌}
+use Prim.Native.Nat.{◌-◌}
 use Rattle.model.specs.Devices.{same_name}
 use Rattle.model.specs.Layout.{first_id_word, id_in, ids_of}
 use Rattle.model.specs.Peers.{listed_id}
-use Rattle.basics.proofs.Loops.{NoneBelow, none_first, none_more, found_here, found_nowhere}
+use Rattle.basics.proofs.Loops.{none_first, none_more, found_here, found_nowhere}
 use Rattle.id_list.proofs.Ids.{BytesRules, IdsRules, bytes-rules, id-at, id_same, ids-rules}
 use native.Mathlib.Omega.{arith}
 use Rattle.id_list.proofs.listed_id.Goals as goal
@@ -21,7 +21,6 @@ rules c = bytes-rules _ _ _ (id-at _ _ _ _ (all-rules (search)).each c.loop-p-te
 
 pub has_name-requires : goal.has_name-requires
 has_name-requires c =
-    
     let few = (all-rules (search)).few in
     let r = rules (search) in
     let short = r.few in
@@ -34,7 +33,6 @@ same c = sym (id_same _ _ _ _) ∙ sym c.has_name.ensures
 pub returns-then-has_name : goal.returns-then-has_name
 unfolding listed_id
 returns-then-has_name c =
-    
     found_here _ _ _ c.loop-p.invariant.1 c.loop-p-test.true (same (search) ∙ c.if-has_name.true)
 
 pub overflow_add-p : goal.overflow_add-p
@@ -42,7 +40,6 @@ overflow_add-p c = omega (arith, (all-rules (search)).few)
 
 pub loop-p-preserved : goal.loop-p-preserved
 loop-p-preserved c =
-    
     (omega arith, none_more _ _ c.loop-p.invariant.1 (same (search) ∙ c.if-has_name.false))
 
 pub returns : goal.returns

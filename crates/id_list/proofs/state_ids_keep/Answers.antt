@@ -1,7 +1,5 @@
 -- `id_list::state_ids_keep` meets its contract: the state has room for the most ids, and they decide.
 -- Assumes nothing.
-use native.Mathlib.Omega.{arith}
-use borrow.Author.Rules.{rules}
 use Rattle.id_list.proofs.state_ids_keep.Goals as goal
 
 pub returns : goal.returns

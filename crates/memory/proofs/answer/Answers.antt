@@ -6,7 +6,6 @@ use native.Mathlib.Omega.{arith}
 use Rattle.basics.proofs.Loops.{no, yes}
 use Rattle.model.proofs.Sounds.{sound-numbers}
 use Rattle.memory.proofs.Laws.{form-error, number-error, number-risen}
-use borrow.Author.Rules.{rules}
 use Rattle.memory.proofs.answer.Goals as goal
 
 pub returns-then-not-right_form : goal.returns-then-not-right_form

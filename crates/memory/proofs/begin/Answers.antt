@@ -1,7 +1,5 @@
 use mathlib.Core.Path.{refl}
 use Rattle.model.specs.Memory.{beginning}
-use borrow.Author.Rules.{rules}
-use native.Mathlib.Omega.{arith}
 use Rattle.memory.proofs.begin.Goals as goal
 
 pub returns : goal.returns

@@ -1,6 +1,4 @@
 use Rattle.memory.proofs.Laws.{block-handles}
-use borrow.Author.Rules.{rules}
-use native.Mathlib.Omega.{arith}
 use Rattle.memory.proofs.block.Goals as goal
 
 pub returns : goal.returns

@@ -4,8 +4,6 @@ use Rattle.basics.proofs.Loops.{no, yes}
 use Rattle.model.proofs.Rules.{sound-facts}
 use Rattle.removal_state.proofs.Laws.{cancelled-is}
 use Rattle.memory.proofs.Laws.{cancel-idle, cancel-again, cancel-marks}
-use borrow.Author.Rules.{rules}
-use native.Mathlib.Omega.{arith}
 use Rattle.memory.proofs.cancel.Goals as goal
 
 pub returns-then-not-is_outstanding : goal.returns-then-not-is_outstanding

@@ -5,7 +5,6 @@ use Rattle.model.specs.declared.Request.TheVariants.{Configure, Unconfigure, Que
 use Rattle.model.specs.Memory.{requested}
 use Rattle.model.proofs.Search.{sound-in-order}
 use Rattle.memory.proofs.Laws.{formed}
-use borrow.Author.Rules.{rules}
 use Rattle.memory.proofs.dispatch.Goals as goal
 
 pub hear_configure-requires : goal.hear_configure-requires

@@ -2,8 +2,6 @@ use mathlib.Core.Path.{refl, sym}
 use mathlib.Core.List.{[]}
 use Rattle.model.specs.Memory.{answering, answering_error}
 use Rattle.model.proofs.Replies.{memory-length}
-use borrow.Author.Rules.{rules}
-use native.Mathlib.Omega.{arith}
 use Rattle.memory.proofs.error.Goals as goal
 
 pub returns : goal.returns

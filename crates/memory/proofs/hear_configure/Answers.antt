@@ -1,8 +1,6 @@
 use mathlib.Core.Path.{sym, ◌∙◌}
 use Rattle.basics.specs.Choice.{pick}
 use Rattle.model.specs.Memory.{requested}
-use borrow.Author.Rules.{rules}
-use native.Mathlib.Omega.{arith}
 use Rattle.memory.proofs.hear_configure.Goals as goal
 
 pub returns-then-is_outstanding : goal.returns-then-is_outstanding

@@ -2,8 +2,6 @@ use mathlib.Core.Path.{sym, ◌∙◌}
 use Rattle.basics.specs.Choice.{pick}
 use Rattle.model.specs.Memory.{requested}
 use Rattle.model.proofs.Handlers.{silent-handles}
-use borrow.Author.Rules.{rules}
-use native.Mathlib.Omega.{arith}
 use Rattle.memory.proofs.hear_unconfigure.Goals as goal
 
 pub returns-then-outstanding : goal.returns-then-outstanding

@@ -1,15 +1,11 @@
 use Rattle.memory.proofs.Laws.{pair_same}
 use mathlib.Core.Path.{◌∙◌, ◌≡◌, refl}
 use native.Mathlib.Omega.{arith}
-use Prim.Native.Nat.{◌≤◌, ◌-◌}
-use lib.ListN.{length}
-use lib.Seq.{sets}
+use Prim.Native.Nat.{◌-◌}
 use Rattle.basics.specs.Choice.{joined}
-use Rattle.model.specs.Layout.{reply_header_bytes}
-use Rattle.model.specs.Memory.{DR-MEM-RES-BLOCKED, addr_in, result_record, size_in}
+use Rattle.model.specs.Memory.{DR-MEM-RES-BLOCKED}
 use Rattle.model.proofs.Replies.{result-length}
 use Rattle.records.proofs.Parts.{result-more}
-use borrow.Author.Rules.{rules}
 use Rattle.memory.proofs.put_blocked.Goals as goal
 
 pub put_result-requires : goal.put_result-requires

@@ -1,14 +1,10 @@
-use Rattle.memory.proofs.Laws.{pair_same}
-use mathlib.Core.Path.{◌∙◌, ◌≡◌, refl}
-use native.Mathlib.Omega.{arith}
+use mathlib.Core.Path.{◌≡◌}
 use Prim.Native.Nat.{◌≤◌, ◌-◌}
 use lib.ListN.{length}
 use lib.Seq.{sets}
 use Rattle.basics.specs.Choice.{joined}
 use Rattle.model.specs.Layout.{reply_header_bytes}
 use Rattle.model.specs.Memory.{DR-MEM-RES-BLOCKED, addr_in, result_record, size_in}
-use Rattle.model.proofs.Replies.{result-length}
-use Rattle.records.proofs.Parts.{result-more}
 use Rattle.memory.proofs.put_blocked.Given as goal
 
 abbrev pub invariant-loop-i : goal.invariant-loop-i

@@ -1,7 +1,6 @@
 use native.Mathlib.Omega.{arith}
 use Rattle.model.specs.Layout.{removal_of}
 use Rattle.memory.proofs.Laws.{told-some, told-settled}
-use borrow.Author.Rules.{rules}
 use Rattle.memory.proofs.put_status_record.Goals as goal
 
 pub returns-then-position-count_of : goal.returns-then-position-count_of

@@ -8,7 +8,6 @@ use Rattle.model.specs.Layout.{removal_of, reply_header_bytes, status_bytes}
 use Rattle.model.specs.Memory.{status_record}
 use Rattle.records.proofs.Parts.{part-sets}
 use Rattle.memory.proofs.Laws.{removal-fits, report-none, report-some}
-use borrow.Author.Rules.{rules}
 use Rattle.memory.proofs.report.Goals as goal
 
 pub returns-then-not-is_outstanding : goal.returns-then-not-is_outstanding

@@ -6,7 +6,6 @@ use borrow.Author.Tests.{ne_eqb}
 use Rattle.basics.specs.Choice.{pick}
 use Rattle.model.specs.Messages.{decoded_by_type}
 use Rattle.messages.proofs.Rules.{well-rules, init-payload, ack-payload, handle-payload}
-use borrow.Author.Rules.{rules}
 use Rattle.messages.proofs.by_type.Goals as goal
 
 pub get32-message_type-requires : goal.get32-message_type-requires

@@ -7,8 +7,6 @@ use borrow.Author.Tests.{not-true, not-false}
 use Rattle.basics.specs.Choice.{pick, ◌and◌}
 use Rattle.model.specs.Messages.{well_formed, decoded}
 use Rattle.basics.proofs.Choice.{join}
-use borrow.Author.Rules.{rules}
-use native.Mathlib.Omega.{arith}
 use Rattle.messages.proofs.decode.Goals as goal
 
 pub returns-then-not-whole_message : goal.returns-then-not-whole_message
@@ -32,6 +30,5 @@ by_type-requires c = let whole = sym c.whole_message.ensures ∙ not-false _ (ap
 pub returns : goal.returns
 unfolding decoded well_formed pick ◌and◌
 returns c =
-    
     let whole = sym c.whole_message.ensures ∙ not-false _ (ap not c.if-not-whole_message.false) in
     rw (whole, sym c.payload_fits.ensures ∙ not-false _ (ap not c.if-not-payload_fits.false)) c.by_type.ensures

@@ -6,7 +6,6 @@ use native.Mathlib.Omega.{arith}
 use Rattle.basics.proofs.Choice.{clash}
 use Rattle.basics.proofs.Loops.{refute}
 use Rattle.messages.proofs.Rules.{zero-byte, other_byte, whole-rules, id-rules, id-last}
-use borrow.Author.Rules.{rules}
 use Rattle.messages.proofs.id_fits.Goals as goal
 
 pub returns-then-payload_len-lt13 : goal.returns-then-payload_len-lt13
@@ -21,7 +20,6 @@ bounds-m-payload_len c =
 
 pub returns-then-m-payload_len-ne0 : goal.returns-then-m-payload_len-ne0
 returns-then-m-payload_len-ne0 c =
-    
     let last = c.args.payload_len + 7 in
     let other = other_byte c.args.m.now last (c.shared_slice_known-2-1.given last).fits c.if-m-payload_len-ne0.true in
     refute _ (λ t. clash _ (rw c.requires.1 at other) (id-rules _ t).end)
@@ -31,7 +29,6 @@ no_zero-requires c = let r = whole-rules _ c.requires.0 in omega arith
 
 pub returns : goal.returns
 returns c =
-    
     let last = c.args.payload_len + 7 in
     let zero = zero-byte c.args.m.now last (c.shared_slice_known-2-1.given last).fits c.if-m-payload_len-ne0.false in
     c.no_zero.ensures ∙ rw c.requires.1 (sym (id-last _ (record { low = omega arith; high = omega arith; end = rw c.requires.1 at zero })))

@@ -1,15 +1,14 @@
 -- `messages::no_zero` meets its contract. The loop's invariant: no byte passed is zero. The measure is what is left.
 -- Assumes nothing.
-use mathlib.Core.Path.{◌≡◌, sym, ap}
+use mathlib.Core.Path.{sym, ap}
 use mathlib.Core.Bool.{true, not}
-use Prim.Native.Nat.{ℕ, ◌+◌, ◌-◌, ◌≤◌, ◌<◌}
+use Prim.Native.Nat.{◌+◌, ◌-◌}
 use native.Mathlib.Omega.{arith}
 use borrow.Author.Count.{below_none, below_more}
 use Rattle.basics.proofs.Choice.{clash, every-at, every-make}
 use Rattle.messages.specs.Id.{id_byte}
 use Rattle.basics.proofs.Loops.{refute}
 use Rattle.messages.proofs.Rules.{zero-byte, other_byte}
-use borrow.Author.Rules.{rules}
 use Rattle.messages.proofs.no_zero.Goals as goal
 
 pub returns-then-m-i-eq0 : goal.returns-then-m-i-eq0

@@ -1,14 +1,9 @@
 -- `messages::no_zero` meets its contract. The loop's invariant: no byte passed is zero. The measure is what is left.
 -- Assumes nothing.
-use mathlib.Core.Path.{◌≡◌, sym, ap}
-use mathlib.Core.Bool.{true, not}
-use Prim.Native.Nat.{ℕ, ◌+◌, ◌-◌, ◌≤◌, ◌<◌}
-use native.Mathlib.Omega.{arith}
-use borrow.Author.Count.{below_none, below_more}
-use Rattle.basics.proofs.Choice.{clash, every-at, every-make}
+use mathlib.Core.Path.{◌≡◌}
+use mathlib.Core.Bool.{true}
+use Prim.Native.Nat.{ℕ, ◌-◌, ◌≤◌, ◌<◌}
 use Rattle.messages.specs.Id.{id_byte}
-use Rattle.basics.proofs.Loops.{refute}
-use Rattle.messages.proofs.Rules.{zero-byte, other_byte}
 use Rattle.messages.proofs.no_zero.Given as goal
 
 abbrev pub invariant-loop-i : goal.invariant-loop-i

@@ -5,7 +5,6 @@ use native.Mathlib.Omega.{arith}
 use Rattle.basics.specs.Choice.{pick}
 use Rattle.model.specs.Messages.{payload_fits}
 use Rattle.messages.proofs.Rules.{whole-rules, unreg-fits, no-type}
-use borrow.Author.Rules.{rules}
 use Rattle.messages.proofs.payload_fits.Goals as goal
 
 pub get32-message_type-requires : goal.get32-message_type-requires

@@ -4,7 +4,6 @@ use mathlib.Core.Path.{sym}
 use native.Mathlib.Omega.{arith}
 use Rattle.basics.proofs.Loops.{refute}
 use Rattle.messages.proofs.Rules.{whole-rules, whole-last}
-use borrow.Author.Rules.{rules}
 use Rattle.messages.proofs.whole_message.Goals as goal
 
 pub returns-then-m-lt-DS_HEADER_BYTES : goal.returns-then-m-lt-DS_HEADER_BYTES

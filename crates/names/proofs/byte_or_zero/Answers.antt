@@ -4,7 +4,6 @@ use mathlib.Core.Path.{sym}
 use Rattle.wire.proofs.Laws.{byte-at}
 use Rattle.names.proofs.Names.{byte_past}
 use native.Mathlib.Omega.{arith}
-use borrow.Author.Rules.{rules}
 use Rattle.names.proofs.byte_or_zero.Goals as goal
 
 pub overflow_cast-result : goal.overflow_cast-result

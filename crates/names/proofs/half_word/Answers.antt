@@ -4,7 +4,6 @@ use mathlib.Core.Path.{ap}
 use native.Mathlib.Nat.{add-zero}
 use Rattle.wire.specs.BigEndian.{byte_at, number_at}
 use native.Mathlib.Omega.{arith}
-use borrow.Author.Rules.{rules}
 use Rattle.names.proofs.half_word.Goals as goal
 
 pub returns : goal.returns

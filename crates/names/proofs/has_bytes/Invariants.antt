@@ -1,17 +1,13 @@
 -- `names::has_bytes` meets its contract: the words passed have the bytes, and one that differs has not.
 -- Assumes nothing.
 use mathlib.Core.Bool.{true}
-use mathlib.Core.Path.{◌≡◌, sym, ◌∙◌}
+use mathlib.Core.Path.{◌≡◌}
 use Prim.Native.Nat.{◌+◌, ◌*◌, ◌≤◌, ◌-◌}
 use lib.ListN.{get_or}
 use Rattle.wire.specs.BigEndian.{number_at}
-use Rattle.wire.proofs.Laws.{number_bound}
 use Rattle.basics.specs.Choice.{every}
 use Rattle.model.specs.Layout.{word_bytes}
-use Rattle.basics.proofs.Loops.{every-none, every_more, every-fails, every-all}
 use Rattle.names.specs.NameWords.{same_bytes}
-use Rattle.names.proofs.Bytes.{words_same, words-differ}
-use native.Mathlib.Omega.{arith}
 use Rattle.names.proofs.has_bytes.Given as goal
 
 abbrev pub invariant-loop-q : goal.invariant-loop-q

@@ -3,7 +3,6 @@
 use mathlib.Core.Path.{◌∙◌}
 use native.Mathlib.Omega.{arith}
 use Rattle.names.proofs.Names.{length-differs, same-words}
-use borrow.Author.Rules.{rules}
 use Rattle.names.proofs.has_name.Goals as goal
 
 pub returns : goal.returns

@@ -8,7 +8,6 @@ use Rattle.basics.proofs.Loops.{refute, no, yes}
 use Rattle.names.proofs.Bytes.{and-next}
 use Rattle.names.proofs.Names.{name-rules, name-words}
 use native.Mathlib.Omega.{arith}
-use borrow.Author.Rules.{rules}
 use Rattle.names.proofs.holds_name.Goals as goal
 
 pub returns-then-n-lt1 : goal.returns-then-n-lt1

@@ -2,7 +2,6 @@
 -- Assumes nothing.
 use Rattle.wire.proofs.Laws.{number-split}
 use native.Mathlib.Omega.{arith}
-use borrow.Author.Rules.{rules}
 use Rattle.names.proofs.last_word.Goals as goal
 
 pub returns : goal.returns

@@ -3,7 +3,6 @@
 use mathlib.Core.Path.{◌∙◌}
 use native.Mathlib.Omega.{arith}
 use Rattle.names.proofs.Zeros.{rest-fails, rest-law}
-use borrow.Author.Rules.{rules}
 use Rattle.names.proofs.last_word_keeps.Goals as goal
 
 pub returns-then-w-rest-ne0 : goal.returns-then-w-rest-ne0

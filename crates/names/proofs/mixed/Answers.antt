@@ -2,8 +2,6 @@
 -- Assumes nothing.
 use mathlib.Core.Path.{refl}
 use Rattle.names.specs.Hashes.{mixed}
-use borrow.Author.Rules.{rules}
-use native.Mathlib.Omega.{arith}
 use Rattle.names.proofs.mixed.Goals as goal
 
 pub returns : goal.returns

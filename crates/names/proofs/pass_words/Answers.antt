@@ -2,15 +2,10 @@
 -- Assumes nothing.
 use native.Mathlib.Omega.{arith}
 use mathlib.Core.Path.{◌≡◌, refl, ◌∙◌}
-use Prim.Native.Nat.{◌+◌, ◌≤◌, ◌-◌}
 use native.Mathlib.Numerals.{add-one}
-use lib.ListN.{get_or}
-use lib.Dec.{eqb}
 use Rattle.basics.specs.Choice.{every}
-use Rattle.names.specs.NameWords.{whole_word}
 use Rattle.names.specs.Hashes.{mixed_words}
 use Rattle.names.proofs.Zeros.{or-none}
-use borrow.Author.Rules.{rules}
 use Rattle.names.proofs.pass_words.Goals as goal
 
 pub loop-q-preserved : goal.loop-q-preserved

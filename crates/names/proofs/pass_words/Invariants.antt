@@ -1,15 +1,12 @@
 -- `names::pass_words` meets its contract: no bit is set for the words passed exactly where none of their bytes is 0, and they are mixed.
 -- Assumes nothing.
-use native.Mathlib.Omega.{arith}
-use mathlib.Core.Path.{◌≡◌, refl, ◌∙◌}
+use mathlib.Core.Path.{◌≡◌}
 use Prim.Native.Nat.{◌+◌, ◌≤◌, ◌-◌}
-use native.Mathlib.Numerals.{add-one}
 use lib.ListN.{get_or}
 use lib.Dec.{eqb}
 use Rattle.basics.specs.Choice.{every}
 use Rattle.names.specs.NameWords.{whole_word}
 use Rattle.names.specs.Hashes.{mixed_words}
-use Rattle.names.proofs.Zeros.{or-none}
 use Rattle.names.proofs.pass_words.Given as goal
 
 abbrev pub invariant-loop-q : goal.invariant-loop-q

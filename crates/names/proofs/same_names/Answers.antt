@@ -3,7 +3,6 @@
 use mathlib.Core.Path.{◌∙◌}
 use native.Mathlib.Omega.{arith}
 use Rattle.names.proofs.Names.{lengths_differ, pair-words}
-use borrow.Author.Rules.{rules}
 use Rattle.names.proofs.same_names.Goals as goal
 
 pub returns : goal.returns

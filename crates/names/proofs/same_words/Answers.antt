@@ -1,15 +1,9 @@
 -- `names::same_words` meets its contract: the words passed have the same bytes, and two that differ have not.
 -- Assumes nothing.
-use mathlib.Core.Bool.{true}
-use mathlib.Core.Path.{◌≡◌}
-use Prim.Native.Nat.{◌+◌, ◌≤◌, ◌-◌}
+use Prim.Native.Nat.{◌+◌}
 use native.Mathlib.Omega.{arith}
-use lib.ListN.{get_or}
-use Rattle.basics.specs.Choice.{every}
 use Rattle.basics.proofs.Loops.{every-none, every_more, every-fails, every-all}
-use Rattle.names.specs.NameWords.{same_bytes}
 use Rattle.names.proofs.Bytes.{words_same, words-differ}
-use borrow.Author.Rules.{rules}
 use Rattle.names.proofs.same_words.Goals as goal
 
 pub returns-then-words-a : goal.returns-then-words-a

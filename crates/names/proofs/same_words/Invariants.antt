@@ -3,12 +3,9 @@
 use mathlib.Core.Bool.{true}
 use mathlib.Core.Path.{◌≡◌}
 use Prim.Native.Nat.{◌+◌, ◌≤◌, ◌-◌}
-use native.Mathlib.Omega.{arith}
 use lib.ListN.{get_or}
 use Rattle.basics.specs.Choice.{every}
-use Rattle.basics.proofs.Loops.{every-none, every_more, every-fails, every-all}
 use Rattle.names.specs.NameWords.{same_bytes}
-use Rattle.names.proofs.Bytes.{words_same, words-differ}
 use Rattle.names.proofs.same_words.Given as goal
 
 abbrev pub invariant-loop-q : goal.invariant-loop-q

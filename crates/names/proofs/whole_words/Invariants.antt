@@ -1,14 +1,11 @@
 -- `names::whole_words` meets its contract: no bit is set for the words passed exactly where none of their bytes is 0.
 -- Assumes nothing.
-use mathlib.Core.Path.{◌≡◌, refl, ◌∙◌}
+use mathlib.Core.Path.{◌≡◌}
 use Prim.Native.Nat.{◌+◌, ◌≤◌, ◌-◌}
-use native.Mathlib.Numerals.{add-one}
-use native.Mathlib.Omega.{arith}
 use lib.ListN.{get_or}
 use lib.Dec.{eqb}
 use Rattle.basics.specs.Choice.{every}
 use Rattle.names.specs.NameWords.{whole_word}
-use Rattle.names.proofs.Zeros.{or-none}
 use Rattle.names.proofs.whole_words.Given as goal
 
 abbrev pub invariant-loop-q : goal.invariant-loop-q

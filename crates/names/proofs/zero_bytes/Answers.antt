@@ -2,7 +2,6 @@
 -- Assumes nothing.
 use native.Mathlib.Omega.{arith}
 use Rattle.names.proofs.Zeros.{low-most, zeros_law}
-use borrow.Author.Rules.{rules}
 use Rattle.names.proofs.zero_bytes.Goals as goal
 
 pub overflow_add-other : goal.overflow_add-other

@@ -1,8 +1,6 @@
 use borrow.Author.Tests.{eq-eqb, ne_eqb}
 use Rattle.basics.specs.Choice.{pick}
 use Rattle.model.specs.Orders.{order_bytes}
-use borrow.Author.Rules.{rules}
-use native.Mathlib.Omega.{arith}
 use Rattle.orders.proofs.bytes_of.Goals as goal
 
 pub returns-then-service-eq-SHUTDOWN_SERVICE : goal.returns-then-service-eq-SHUTDOWN_SERVICE

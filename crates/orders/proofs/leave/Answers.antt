@@ -1,11 +1,8 @@
 use Rattle.model.specs.Orders.{ordering}
-use borrow.Author.Rules.{rules}
-use native.Mathlib.Omega.{arith}
 use Rattle.orders.proofs.leave.Goals as goal
 
 pub returns : goal.returns
 unfolding ordering
 returns c =
-    
     let wrote = c.put_reply-length.ensures in
     record { length' = wrote.size; notes = c.ordered.ensures; state = c.set_order.ensures; output = wrote.output }

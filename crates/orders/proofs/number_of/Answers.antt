@@ -1,8 +1,6 @@
 use borrow.Author.Tests.{lt-ltb, le-ltb}
 use Rattle.basics.specs.Choice.{pick}
 use Rattle.model.specs.Orders.{order_number}
-use borrow.Author.Rules.{rules}
-use native.Mathlib.Omega.{arith}
 use Rattle.orders.proofs.number_of.Goals as goal
 
 pub returns-then-b-lt8 : goal.returns-then-b-lt8

@@ -1,12 +1,11 @@
 -- `orders::put_bytes` meets its contract. The loop's invariant: the bytes passed are stored. The measure is what is left of them.
 -- Assumes nothing.
 use mathlib.Core.Path.{◌≡◌, refl, ◌∙◌}
-use Prim.Native.Nat.{◌≤◌, ◌-◌}
+use Prim.Native.Nat.{◌-◌}
 use native.Mathlib.Omega.{arith}
-use lib.ListN.{length, take, length-set}
-use lib.Seq.{sets, take-length}
+use lib.ListN.{length, length-set}
+use lib.Seq.{take-length}
 use Rattle.wire.proofs.Laws.{sets_more}
-use borrow.Author.Rules.{rules}
 use Rattle.orders.proofs.put_bytes.Goals as goal
 
 pub loop-i-preserved : goal.loop-i-preserved

@@ -1,11 +1,9 @@
 -- `orders::put_bytes` meets its contract. The loop's invariant: the bytes passed are stored. The measure is what is left of them.
 -- Assumes nothing.
-use mathlib.Core.Path.{◌≡◌, refl, ◌∙◌}
+use mathlib.Core.Path.{◌≡◌}
 use Prim.Native.Nat.{◌≤◌, ◌-◌}
-use native.Mathlib.Omega.{arith}
-use lib.ListN.{length, take, length-set}
-use lib.Seq.{sets, take-length}
-use Rattle.wire.proofs.Laws.{sets_more}
+use lib.ListN.{length, take}
+use lib.Seq.{sets}
 use Rattle.orders.proofs.put_bytes.Given as goal
 
 abbrev pub invariant-loop-i : goal.invariant-loop-i

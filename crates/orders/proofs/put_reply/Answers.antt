@@ -8,7 +8,6 @@ use Rattle.wire.specs.BigEndian.{bytes_of}
 use Rattle.model.specs.Messages.{ds_data}
 use Rattle.model.specs.Orders.{order_reply}
 use Rattle.services.proofs.Parts.{message-stored}
-use borrow.Author.Rules.{rules}
 use Rattle.orders.proofs.put_reply.Goals as goal
 
 pub returns : goal.returns

@@ -1,7 +1,5 @@
 use Rattle.model.specs.Orders.{not_ordered}
 use mathlib.Core.Path.{refl}
-use borrow.Author.Rules.{rules}
-use native.Mathlib.Omega.{arith}
 use Rattle.orders.proofs.refuse.Goals as goal
 
 pub returns : goal.returns

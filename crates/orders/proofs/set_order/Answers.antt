@@ -2,8 +2,6 @@
 -- Assumes nothing.
 use Rattle.model.specs.Layout.{with_order}
 use mathlib.Core.Path.{refl}
-use borrow.Author.Rules.{rules}
-use native.Mathlib.Omega.{arith}
 use Rattle.orders.proofs.set_order.Goals as goal
 
 pub returns : goal.returns

@@ -1,7 +1,5 @@
 use Rattle.model.specs.Layout.{with_permission}
 use mathlib.Core.Path.{refl}
-use borrow.Author.Rules.{rules}
-use native.Mathlib.Omega.{arith}
 use Rattle.orders.proofs.set_permission.Goals as goal
 
 pub returns : goal.returns

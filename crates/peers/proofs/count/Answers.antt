@@ -1,14 +1,13 @@
 -- `peers::count` meets its contract: the marks passed are counted, one at most for each.
 -- Assumes nothing.
-use Prim.Native.Nat.{ℕ, ◌≤◌, ◌-◌}
+use Prim.Native.Nat.{ℕ, ◌-◌}
 use native.Mathlib.Omega.{arith}
-use mathlib.Core.Path.{◌≡◌, sym, ap, ◌∙◌}
+use mathlib.Core.Path.{sym, ap, ◌∙◌}
 use native.Mathlib.Nat.{le_antisymm}
-use Rattle.model.specs.Layout.{marks_at, most_ids}
+use Rattle.model.specs.Layout.{marks_at}
 use Rattle.model.specs.Peers.{peers_below}
 use Rattle.model.proofs.Marks.{bit-few}
 use Rattle.peers.proofs.Laws.{none-counted, one-counted}
-use borrow.Author.Rules.{rules}
 use Rattle.peers.proofs.count.Goals as goal
 
 pub overflow_add-n : goal.overflow_add-n

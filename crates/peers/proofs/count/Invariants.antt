@@ -1,13 +1,9 @@
 -- `peers::count` meets its contract: the marks passed are counted, one at most for each.
 -- Assumes nothing.
-use Prim.Native.Nat.{ℕ, ◌≤◌, ◌-◌}
-use native.Mathlib.Omega.{arith}
-use mathlib.Core.Path.{◌≡◌, sym, ap, ◌∙◌}
-use native.Mathlib.Nat.{le_antisymm}
-use Rattle.model.specs.Layout.{marks_at, most_ids}
+use Prim.Native.Nat.{◌≤◌, ◌-◌}
+use mathlib.Core.Path.{◌≡◌}
+use Rattle.model.specs.Layout.{most_ids}
 use Rattle.model.specs.Peers.{peers_below}
-use Rattle.model.proofs.Marks.{bit-few}
-use Rattle.peers.proofs.Laws.{none-counted, one-counted}
 use Rattle.peers.proofs.count.Given as goal
 
 abbrev pub invariant-loop-p : goal.invariant-loop-p

@@ -3,8 +3,6 @@
 use mathlib.Core.Path.{sym}
 use borrow.Author.Tests.{ne_eqb, eq-eqb}
 use Rattle.basics.proofs.Choice.{or-none, or-true}
-use borrow.Author.Rules.{rules}
-use native.Mathlib.Omega.{arith}
 use Rattle.peers.proofs.differs.Goals as goal
 
 pub returns-then-handle_of-handle : goal.returns-then-handle_of-handle

@@ -1,13 +1,11 @@
 -- `peers::each_sound` meets its contract: each id passed is sound.
 -- Assumes nothing.
-use native.Mathlib.Omega.{arith}
 use mathlib.Core.Bool.{true}
 use mathlib.Core.Path.{◌≡◌}
 use Prim.Native.Nat.{◌≤◌, ◌-◌}
 use Rattle.basics.specs.Choice.{every}
 use Rattle.model.specs.Layout.{most_ids, ready_at}
 use Rattle.model.specs.Peers.{peer_sound}
-use Rattle.basics.proofs.Loops.{no, yes, every-none, every_more, every-fails, every-all}
 use Rattle.peers.proofs.each_sound.Given as goal
 
 abbrev pub invariant-loop-p : goal.invariant-loop-p

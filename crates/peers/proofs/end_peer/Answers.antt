@@ -2,8 +2,6 @@
 -- Assumes nothing.
 use Rattle.model.specs.Layout.{without_peer, bit_cleared}
 use Rattle.peers.proofs.Laws.{own-bit}
-use borrow.Author.Rules.{rules}
-use native.Mathlib.Omega.{arith}
 use Rattle.peers.proofs.end_peer.Goals as goal
 
 pub returns : goal.returns

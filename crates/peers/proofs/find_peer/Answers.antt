@@ -2,11 +2,9 @@
 -- Assumes nothing.
 use native.Mathlib.Omega.{arith}
 use mathlib.Core.Path.{sym, ◌∙◌}
-use Prim.Native.Nat.{◌≤◌, ◌-◌}
+use Prim.Native.Nat.{◌-◌}
 use Rattle.model.specs.Peers.{peered_as}
-use Rattle.model.specs.Layout.{most_ids}
-use Rattle.basics.proofs.Loops.{NoneBelow, none_first, none_more, found_here, found_nowhere}
-use borrow.Author.Rules.{rules}
+use Rattle.basics.proofs.Loops.{none_first, none_more, found_here, found_nowhere}
 use Rattle.peers.proofs.find_peer.Goals as goal
 
 pub returns-then-peered_as : goal.returns-then-peered_as

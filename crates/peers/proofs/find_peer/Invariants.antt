@@ -1,11 +1,9 @@
 -- `peers::find_peer` meets its contract: no id passed is registered under the handle.
 -- Assumes nothing.
-use native.Mathlib.Omega.{arith}
-use mathlib.Core.Path.{sym, ◌∙◌}
 use Prim.Native.Nat.{◌≤◌, ◌-◌}
 use Rattle.model.specs.Peers.{peered_as}
 use Rattle.model.specs.Layout.{most_ids}
-use Rattle.basics.proofs.Loops.{NoneBelow, none_first, none_more, found_here, found_nowhere}
+use Rattle.basics.proofs.Loops.{NoneBelow}
 use Rattle.peers.proofs.find_peer.Given as goal
 
 abbrev pub invariant-loop-p : goal.invariant-loop-p

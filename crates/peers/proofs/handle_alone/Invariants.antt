@@ -1,16 +1,11 @@
 -- `peers::handle_alone` meets its contract: no handle passed is the same, so that none of a registration is.
 -- Assumes nothing.
-use native.Mathlib.Omega.{arith}
-use mathlib.Core.Bool.{true, false, not}
-use mathlib.Core.Path.{◌≡◌, refl, sym, ◌∙◌}
+use mathlib.Core.Bool.{true, not}
+use mathlib.Core.Path.{◌≡◌}
 use Prim.Native.Nat.{◌≤◌, ◌-◌}
 use lib.Dec.{eqb}
-use borrow.Author.Tests.{ne_eqb}
 use Rattle.basics.specs.Choice.{◌or◌, every}
 use Rattle.model.specs.Layout.{peered_at, peer_handle_at}
-use Rattle.basics.proofs.Choice.{clash, or-true}
-use Rattle.basics.proofs.Loops.{every-none, every_more, every-all}
-use Rattle.peers.proofs.Laws.{apart-unmarked, apart-marked}
 use Rattle.peers.proofs.handle_alone.Given as goal
 
 abbrev pub invariant-loop-j : goal.invariant-loop-j

@@ -3,16 +3,12 @@
 use mathlib.Core.Path.{ap}
 use mathlib.Core.Bool.{not}
 use native.Mathlib.Omega.{arith}
-use mathlib.Core.Bool.{true, false}
-use mathlib.Core.Path.{◌≡◌, refl, sym}
-use Prim.Native.Nat.{◌≤◌, ◌-◌}
+use mathlib.Core.Bool.{false}
+use mathlib.Core.Path.{refl, sym}
+use Prim.Native.Nat.{◌-◌}
 use borrow.Author.Tests.{not-false}
-use Rattle.basics.specs.Choice.{every}
-use Rattle.model.specs.Layout.{most_ids}
-use Rattle.model.specs.Peers.{peer_apart}
 use Rattle.basics.proofs.Choice.{clash}
 use Rattle.basics.proofs.Loops.{every-none, every_more, every-all}
-use borrow.Author.Rules.{rules}
 use Rattle.peers.proofs.handles_alone.Goals as goal
 
 pub loop-p-preserved : goal.loop-p-preserved

@@ -1,15 +1,11 @@
 -- `peers::handles_alone` meets its contract: no handle passed stands before it.
 -- Assumes nothing.
-use native.Mathlib.Omega.{arith}
-use mathlib.Core.Bool.{true, false}
-use mathlib.Core.Path.{◌≡◌, refl, sym}
+use mathlib.Core.Bool.{true}
+use mathlib.Core.Path.{◌≡◌}
 use Prim.Native.Nat.{◌≤◌, ◌-◌}
-use borrow.Author.Tests.{not-false}
 use Rattle.basics.specs.Choice.{every}
 use Rattle.model.specs.Layout.{most_ids}
 use Rattle.model.specs.Peers.{peer_apart}
-use Rattle.basics.proofs.Choice.{clash}
-use Rattle.basics.proofs.Loops.{every-none, every_more, every-all}
 use Rattle.peers.proofs.handles_alone.Given as goal
 
 abbrev pub invariant-loop-p : goal.invariant-loop-p

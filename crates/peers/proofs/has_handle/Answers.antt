@@ -1,8 +1,6 @@
 -- `peers::has_handle` meets its contract.
 -- Assumes nothing.
 use Rattle.basics.specs.Choice.{is_found}
-use borrow.Author.Rules.{rules}
-use native.Mathlib.Omega.{arith}
 use Rattle.peers.proofs.has_handle.Goals as goal
 
 pub returns-in-At : goal.returns-in-At

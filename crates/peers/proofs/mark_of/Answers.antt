@@ -1,8 +1,6 @@
 -- `peers::mark_of` meets its contract: the bit of the definition.
 -- Assumes nothing.
 use Rattle.model.specs.Layout.{bit_of}
-use borrow.Author.Rules.{rules}
-use native.Mathlib.Omega.{arith}
 use Rattle.peers.proofs.mark_of.Goals as goal
 
 pub returns : goal.returns

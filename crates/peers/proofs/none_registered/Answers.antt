@@ -3,13 +3,12 @@
 use native.Mathlib.Omega.{arith}
 use mathlib.Core.Bool.{Bool, true, false}
 use mathlib.Core.Path.{◌≡◌, refl, sym, ◌∙◌}
-use Prim.Native.Nat.{ℕ, ◌+◌, ◌-◌, ◌<◌, ◌≤◌}
+use Prim.Native.Nat.{ℕ, ◌+◌, ◌-◌, ◌<◌}
 use lib.Dec.{eqb}
 use borrow.Author.Tests.{eqb-true, eqb-false}
 use Rattle.model.specs.Layout.{channel_count, peered_at}
 use Rattle.basics.proofs.Choice.{both}
 use Rattle.names.proofs.Bytes.{both-pass}
-use borrow.Author.Rules.{rules}
 use Rattle.peers.proofs.none_registered.Goals as goal
 
 -- one channel more

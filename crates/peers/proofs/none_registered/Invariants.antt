@@ -1,14 +1,9 @@
 -- `peers::none_registered` meets its contract: none of the channels passed has a mark.
 -- Assumes nothing.
-use native.Mathlib.Omega.{arith}
-use mathlib.Core.Bool.{Bool, true, false}
-use mathlib.Core.Path.{◌≡◌, refl, sym, ◌∙◌}
-use Prim.Native.Nat.{ℕ, ◌+◌, ◌-◌, ◌<◌, ◌≤◌}
-use lib.Dec.{eqb}
-use borrow.Author.Tests.{eqb-true, eqb-false}
+use mathlib.Core.Bool.{true}
+use mathlib.Core.Path.{◌≡◌}
+use Prim.Native.Nat.{ℕ, ◌-◌, ◌<◌, ◌≤◌}
 use Rattle.model.specs.Layout.{channel_count, peered_at}
-use Rattle.basics.proofs.Choice.{both}
-use Rattle.names.proofs.Bytes.{both-pass}
 use Rattle.peers.proofs.none_registered.Given as goal
 
 abbrev pub invariant-loop-c : goal.invariant-loop-c

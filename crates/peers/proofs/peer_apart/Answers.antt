@@ -4,14 +4,13 @@ use mathlib.Core.Path.{ap}
 use native.Mathlib.Omega.{arith}
 use mathlib.Core.Bool.{true, not}
 use mathlib.Core.Path.{◌≡◌, sym, ◌∙◌}
-use Prim.Native.Nat.{◌≤◌, ◌-◌}
+use Prim.Native.Nat.{◌-◌}
 use lib.Dec.{eqb}
 use Rattle.basics.specs.Choice.{◌or◌, every}
 use Rattle.model.specs.Layout.{peered_at, peer_handle_at}
 use Rattle.model.specs.Peers.{peer_apart}
 use Rattle.basics.proofs.Loops.{no, yes, every-none, every_more, every-fails, every-all}
 use Rattle.peers.proofs.Laws.{apart-unmarked, apart-marked}
-use borrow.Author.Rules.{rules}
 use Rattle.peers.proofs.peer_apart.Goals as goal
 use Rattle.peers.proofs.peer_apart.Lts as lts
 use Rattle.peers.proofs.peer_apart.Reads as reads

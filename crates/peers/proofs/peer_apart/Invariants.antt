@@ -1,15 +1,11 @@
 -- `peers::peer_apart` meets its contract: no handle passed is the same.
 -- Assumes nothing.
-use native.Mathlib.Omega.{arith}
 use mathlib.Core.Bool.{true, not}
-use mathlib.Core.Path.{◌≡◌, sym, ◌∙◌}
+use mathlib.Core.Path.{◌≡◌}
 use Prim.Native.Nat.{◌≤◌, ◌-◌}
 use lib.Dec.{eqb}
 use Rattle.basics.specs.Choice.{◌or◌, every}
 use Rattle.model.specs.Layout.{peered_at, peer_handle_at}
-use Rattle.model.specs.Peers.{peer_apart}
-use Rattle.basics.proofs.Loops.{no, yes, every-none, every_more, every-fails, every-all}
-use Rattle.peers.proofs.Laws.{apart-unmarked, apart-marked}
 use Rattle.peers.proofs.peer_apart.Given as goal
 
 abbrev pub invariant-loop-q : goal.invariant-loop-q

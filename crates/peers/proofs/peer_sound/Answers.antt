@@ -6,7 +6,6 @@ use Prim.Native.Nat.{◌-◌}
 use Rattle.model.specs.Layout.{id_in, peered_at}
 use Rattle.basics.proofs.Loops.{refute}
 use Rattle.peers.proofs.Laws.{Registered, unmarked, registered, minor-left}
-use borrow.Author.Rules.{rules}
 use Rattle.peers.proofs.peer_sound.Goals as goal
 use Rattle.peers.proofs.peer_sound.Lts as lts
 use Rattle.peers.proofs.peer_sound.Reads as reads

@@ -2,8 +2,6 @@
 -- Assumes nothing.
 use borrow.Author.Tests.{ne_eqb, eq-eqb}
 use Rattle.basics.specs.Choice.{◌and◌}
-use borrow.Author.Rules.{rules}
-use native.Mathlib.Omega.{arith}
 use Rattle.peers.proofs.peered_as.Goals as goal
 
 pub returns-then-mark_of-ne1 : goal.returns-then-mark_of-ne1

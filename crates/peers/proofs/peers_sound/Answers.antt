@@ -11,8 +11,6 @@ use Rattle.basics.proofs.Choice.{clash}
 use Rattle.basics.proofs.Loops.{refute, no, yes}
 use Rattle.model.proofs.Peers.{unmarked-sound}
 use Rattle.peers.proofs.Laws.{each_part, apart-part, count_left}
-use borrow.Author.Rules.{rules}
-use native.Mathlib.Omega.{arith}
 use Rattle.peers.proofs.peers_sound.Goals as goal
 use Rattle.peers.proofs.peers_sound.Lts as lts
 use Rattle.peers.proofs.peers_sound.Reads as reads

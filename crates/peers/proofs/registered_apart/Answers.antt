@@ -4,13 +4,9 @@ use mathlib.Core.Path.{ap}
 use mathlib.Core.Bool.{not}
 use native.Mathlib.Omega.{arith}
 use mathlib.Core.Bool.{true}
-use mathlib.Core.Path.{◌≡◌}
-use Prim.Native.Nat.{◌≤◌, ◌-◌}
-use Rattle.basics.specs.Choice.{every}
-use Rattle.model.specs.Layout.{most_ids}
+use Prim.Native.Nat.{◌-◌}
 use Rattle.model.specs.Peers.{peer_apart}
 use Rattle.basics.proofs.Loops.{no, yes, every-none, every_more, every-fails, every-all}
-use borrow.Author.Rules.{rules}
 use Rattle.peers.proofs.registered_apart.Goals as goal
 
 pub returns-then-not-peer_apart : goal.returns-then-not-peer_apart

@@ -3,7 +3,6 @@ use Rattle.model.proofs.Rules.{Keeps, sound-facts, sound-block}
 use Rattle.model.specs.Layout.{most_blocks, block_at, first_block_word}
 use Rattle.model.specs.Blocks.{end_before}
 use Rattle.model.specs.Memory.{permanent_bytes, permanent_first}
-use borrow.Author.Rules.{rules}
 use native.Mathlib.Omega.{arith}
 use Rattle.queries.proofs.permanent_at.Goals as goal
 use Rattle.queries.proofs.permanent_at.Lts as lts

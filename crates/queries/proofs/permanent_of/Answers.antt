@@ -1,9 +1,7 @@
-use Rattle.std.proofs.Common.{sym, refl, ◌∙◌, rules}
+use Rattle.std.proofs.Common.{sym, refl, ◌∙◌}
 use Rattle.model.proofs.Search.{sound-in-order}
 use Rattle.model.proofs.Sounds.{named-less}
 use Rattle.model.specs.Memory.{permanent_bytes, permanent_first}
-use borrow.Author.Rules.{rules}
-use native.Mathlib.Omega.{arith}
 use Rattle.queries.proofs.permanent_of.Goals as goal
 
 pub permanent_at-requires : goal.permanent_at-requires

@@ -1,9 +1,6 @@
 -- `queries::put_query_record` meets its contract: its fields, one after the other, fill the part.
 -- Assumes nothing.
 use Rattle.queries.proofs.Laws.{query-stored}
-use Rattle.std.proofs.Common.{rules}
-use borrow.Author.Rules.{rules}
-use native.Mathlib.Omega.{arith}
 use Rattle.queries.proofs.put_query_record.Goals as goal
 
 pub returns : goal.returns

@@ -1,13 +1,10 @@
 -- `queries::put_query_records` meets its contract: the records passed stand after the headers.
 -- Assumes nothing.
 use Rattle.std.proofs.Common.{◌≡◌, ◌+◌, ◌-◌, ◌*◌, ◌≤◌, length, refl, ◌∙◌, arith, length-drop, length-take}
-use lib.Seq.{sets}
 use Rattle.basics.specs.Choice.{joined}
-use Rattle.model.specs.Memory.{addr_in, size_in, query_record}
 use Rattle.model.proofs.Replies.{query-length}
 use Rattle.records.proofs.Parts.{record-more}
 use Rattle.model.specs.Layout.{query_bytes, reply_header_bytes}
-use borrow.Author.Rules.{rules}
 use native.Mathlib.Omega.{arith}
 use Rattle.queries.proofs.put_query_records.Goals as goal
 

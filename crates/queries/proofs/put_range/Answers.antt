@@ -1,9 +1,6 @@
 -- `queries::put_range` meets its contract: three fields, one after the other.
 -- Assumes nothing.
 use Rattle.queries.proofs.Laws.{range_none, range-some}
-use Rattle.std.proofs.Common.{rules}
-use borrow.Author.Rules.{rules}
-use native.Mathlib.Omega.{arith}
 use Rattle.queries.proofs.put_range.Goals as goal
 
 pub returns-then-bytes-eq0 : goal.returns-then-bytes-eq0

@@ -1,17 +1,12 @@
 -- `reception::deliver` meets its contract: each way by its own function.
 -- Assumes nothing.
-use mathlib.Core.Path.{◌≡◌, refl, sym, ◌∙◌}
+use mathlib.Core.Path.{refl, sym, ◌∙◌}
 use native.Mathlib.Omega.{arith}
 use Rattle.wire.specs.BigEndian.{written}
-use Rattle.model.specs.declared.Route.TheVariants.{Orders}
-use Rattle.model.specs.Messages.{route}
 use Rattle.model.specs.Calls.{routed, data_for}
 use Rattle.reception.proofs.Laws.{orders-services}
 use borrow.Author.Rules.{rules}
 use Rattle.reception.proofs.deliver.Goals as goal
-use Rattle.reception.proofs.deliver.Lts as lts
-use Rattle.reception.proofs.deliver.Reads as reads
-use Rattle.reception.proofs.deliver.Tie as tie
 
 pub answer-requires-in-Orders : goal.answer-requires-in-Orders
 answer-requires-in-Orders c = let v = orders-services _ (sym c.route-route.ensures ∙ c.in-Orders.is) in (omega arith, omega arith, search rules)

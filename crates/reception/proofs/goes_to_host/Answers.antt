@@ -1,7 +1,5 @@
 use mathlib.Core.Path.{ap, ◌∙◌}
 use Rattle.model.specs.Calls.{is_host, goes_to_host}
-use borrow.Author.Rules.{rules}
-use native.Mathlib.Omega.{arith}
 use Rattle.reception.proofs.goes_to_host.Goals as goal
 
 pub returns-in-At : goal.returns-in-At

@@ -3,7 +3,6 @@ use mathlib.Core.Path.{◌∙◌, sym}
 use Rattle.model.specs.Calls.{heard}
 use Rattle.messages.proofs.Rules.{data-there, reg-there}
 use Rattle.model.proofs.Handlers.{silent-handles}
-use borrow.Author.Rules.{rules}
 use Rattle.reception.proofs.hear.Goals as goal
 
 pub register_peer-requires : goal.register_peer-requires

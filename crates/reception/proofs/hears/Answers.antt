@@ -1,8 +1,6 @@
 use borrow.Enum.Refused.{opened}
 use Rattle.model.specs.Calls.{hears}
 use Rattle.reception.proofs.Laws.{hears-others}
-use borrow.Author.Rules.{rules}
-use native.Mathlib.Omega.{arith}
 use Rattle.reception.proofs.hears.Goals as goal
 
 pub returns-in_default : goal.returns-in_default

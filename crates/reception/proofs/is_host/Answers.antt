@@ -1,8 +1,6 @@
 -- `reception::is_host` meets its contract: the cases of the definition.
 -- Assumes nothing.
 use Rattle.model.specs.Calls.{is_host}
-use borrow.Author.Rules.{rules}
-use native.Mathlib.Omega.{arith}
 use Rattle.reception.proofs.is_host.Goals as goal
 
 pub returns-in-Memory : goal.returns-in-Memory

@@ -5,8 +5,6 @@ use mathlib.Core.Bool.{Bool, true, false}
 use Rattle.basics.specs.Choice.{◌or◌}
 use Rattle.model.specs.Messages.{registered_for}
 use Rattle.model.specs.Calls.{goes_to_host}
-use borrow.Author.Rules.{rules}
-use native.Mathlib.Omega.{arith}
 use Rattle.reception.proofs.is_shown.Goals as goal
 use Rattle.reception.proofs.is_shown.Lts as lts
 use Rattle.reception.proofs.is_shown.Reads as reads

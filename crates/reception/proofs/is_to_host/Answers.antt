@@ -1,8 +1,6 @@
 use borrow.Enum.Refused.{opened}
 use Rattle.model.specs.Calls.{to_host}
 use Rattle.reception.proofs.Laws.{others-stay}
-use borrow.Author.Rules.{rules}
-use native.Mathlib.Omega.{arith}
 use Rattle.reception.proofs.is_to_host.Goals as goal
 
 pub returns-in-Data : goal.returns-in-Data

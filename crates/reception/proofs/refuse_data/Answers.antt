@@ -1,7 +1,5 @@
 use mathlib.Core.Path.{refl}
 use Rattle.model.specs.Calls.{peer_data}
-use borrow.Author.Rules.{rules}
-use native.Mathlib.Omega.{arith}
 use Rattle.reception.proofs.refuse_data.Goals as goal
 
 pub returns : goal.returns

@@ -1,8 +1,6 @@
 use Rattle.basics.specs.Choice.{pick}
 use Rattle.model.specs.Calls.{receiving}
 use Rattle.model.proofs.Handlers.{silent-handles}
-use borrow.Author.Rules.{rules}
-use native.Mathlib.Omega.{arith}
 use Rattle.reception.proofs.take.Goals as goal
 
 pub returns-then-hears : goal.returns-then-hears

@@ -1,6 +1,4 @@
 use Rattle.model.specs.Calls.{data_for}
-use borrow.Author.Rules.{rules}
-use native.Mathlib.Omega.{arith}
 use Rattle.reception.proofs.take_data.Goals as goal
 
 pub returns-in-At : goal.returns-in-At

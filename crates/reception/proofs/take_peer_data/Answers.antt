@@ -5,8 +5,6 @@ use Rattle.wire.specs.BigEndian.{written}
 use Rattle.basics.specs.declared.Found.{Found}
 use Rattle.model.specs.Peers.{peer_for}
 use Rattle.model.specs.Calls.{peer_data}
-use borrow.Author.Rules.{rules}
-use native.Mathlib.Omega.{arith}
 use Rattle.reception.proofs.take_peer_data.Goals as goal
 use Rattle.reception.proofs.take_peer_data.Lts as lts
 use Rattle.reception.proofs.take_peer_data.Reads as reads

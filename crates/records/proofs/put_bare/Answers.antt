@@ -4,7 +4,6 @@ use native.Mathlib.Omega.{arith}
 use mathlib.Core.Path.{refl}
 use mathlib.Core.List.{[]}
 use Rattle.records.proofs.Parts.{reply-stored}
-use borrow.Author.Rules.{rules}
 use Rattle.records.proofs.put_bare.Goals as goal
 
 pub returns : goal.returns

@@ -2,8 +2,6 @@
 -- Assumes nothing.
 use Rattle.wire.specs.BigEndian.{bytes_of}
 use Rattle.records.specs.Header.{memory_header}
-use borrow.Author.Rules.{rules}
-use native.Mathlib.Omega.{arith}
 use Rattle.records.proofs.put_header.Goals as goal
 
 pub returns : goal.returns

@@ -5,7 +5,6 @@ use Rattle.model.specs.Memory.{result_record}
 use Rattle.model.proofs.Replies.{result-length}
 use Rattle.records.proofs.Parts.{record-put}
 use native.Mathlib.Omega.{arith}
-use borrow.Author.Rules.{rules}
 use Rattle.records.proofs.put_result.Goals as goal
 
 pub returns : goal.returns

@@ -1,8 +1,6 @@
 -- `records::put_result_record` meets its contract: the five fields fill the part.
 -- Assumes nothing.
 use Rattle.records.proofs.Parts.{low-bytes, record-stored}
-use borrow.Author.Rules.{rules}
-use native.Mathlib.Omega.{arith}
 use Rattle.records.proofs.put_result_record.Goals as goal
 
 pub returns : goal.returns

@@ -1,8 +1,6 @@
 use borrow.Author.Tests.{eq-eqb, ne_eqb}
 use Rattle.basics.specs.Choice.{pick}
 use Rattle.model.specs.Memory.{status_at}
-use borrow.Author.Rules.{rules}
-use native.Mathlib.Omega.{arith}
 use Rattle.records.proofs.status_at.Goals as goal
 
 pub returns-then-configured_of-eq1 : goal.returns-then-configured_of-eq1

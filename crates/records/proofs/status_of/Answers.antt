@@ -2,7 +2,6 @@ use native.Mathlib.Omega.{arith}
 use mathlib.Core.Path.{sym, ◌∙◌}
 use Rattle.model.specs.Memory.{status_at}
 use Rattle.model.proofs.Sounds.{named-less}
-use borrow.Author.Rules.{rules}
 use Rattle.records.proofs.status_of.Goals as goal
 
 pub status_at-requires : goal.status_at-requires

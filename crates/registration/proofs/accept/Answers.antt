@@ -1,7 +1,5 @@
 -- `registration::accept` meets its contract: the reply, the registration and what is noted.
 -- Assumes nothing.
-use native.Mathlib.Omega.{arith}
-use borrow.Author.Rules.{rules}
 use Rattle.registration.proofs.accept.Goals as goal
 
 pub returns : goal.returns

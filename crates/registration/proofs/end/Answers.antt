@@ -1,8 +1,6 @@
 -- `registration::end` meets its contract.
 -- Assumes nothing.
 use Rattle.model.specs.Messages.{peer_unregistered}
-use native.Mathlib.Omega.{arith}
-use borrow.Author.Rules.{rules}
 use Rattle.registration.proofs.end.Goals as goal
 
 pub returns : goal.returns

@@ -6,7 +6,6 @@ use Rattle.basics.specs.declared.Found.{Found}
 use Rattle.model.specs.Layout.{most_ids}
 use Rattle.model.specs.Peers.{peer_for}
 use Rattle.basics.proofs.Choice.{first-facts}
-use borrow.Author.Rules.{rules}
 use Rattle.registration.proofs.end_peer.Goals as goal
 use Rattle.registration.proofs.end_peer.Lts as lts
 use Rattle.registration.proofs.end_peer.Reads as reads
@@ -17,7 +16,6 @@ found_of c x e = sym c.find_peer-found.ensures ∙ e
 
 pub end-requires : goal.end-requires
 end-requires c =
-    
     (omega arith, (first-facts most_ids _ _ (found_of (search) _ c.in-At.is)).below, omega arith)
 
 pub returns-in-At : goal.returns-in-At

@@ -7,7 +7,6 @@ use lib.Dec.{leb}
 use Rattle.model.specs.Layout.{most_peers}
 use Rattle.model.specs.Peers.{top_bit}
 use Rattle.registration.proofs.Laws.{by_bit, by-handle, by_count}
-use borrow.Author.Rules.{rules}
 use Rattle.registration.proofs.is_refused.Goals as goal
 use Rattle.registration.proofs.is_refused.Lts as lts
 use Rattle.registration.proofs.is_refused.Reads as reads
@@ -22,14 +21,11 @@ low c = omega arith
 
 pub returns-then-has_handle : goal.returns-then-has_handle
 returns-then-has_handle c =
-    
     let a = c.args in
     sym (by-handle a.state.now a.channel a.handle (low (search)) (sym c.has_handle.ensures ∙ c.if-has_handle.true))
 
 pub returns : goal.returns
 returns c =
-    
-    
     let a = c.args in
     ap (λ (n : ℕ). leb most_peers n) c.count.ensures
     ∙ sym (by_count a.state.now a.channel a.handle (low (search)) (sym c.has_handle.ensures ∙ c.if-has_handle.false))

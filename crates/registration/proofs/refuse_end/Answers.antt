@@ -2,8 +2,6 @@
 -- Assumes nothing.
 use mathlib.Core.Path.{refl}
 use Rattle.model.specs.Messages.{noting, peer_unregistered}
-use native.Mathlib.Omega.{arith}
-use borrow.Author.Rules.{rules}
 use Rattle.registration.proofs.refuse_end.Goals as goal
 
 pub returns : goal.returns

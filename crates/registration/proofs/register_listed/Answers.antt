@@ -4,8 +4,6 @@ use mathlib.Core.Path.{◌≡◌, sym, ◌∙◌}
 use mathlib.Core.Bool.{Bool, true, false}
 use Rattle.model.specs.Peers.{is_peered}
 use Rattle.basics.proofs.Choice.{pick_true, pick-false}
-use native.Mathlib.Omega.{arith}
-use borrow.Author.Rules.{rules}
 use Rattle.registration.proofs.register_listed.Goals as goal
 use Rattle.registration.proofs.register_listed.Lts as lts
 use Rattle.registration.proofs.register_listed.Reads as reads
@@ -16,10 +14,8 @@ test_of c b e = sym c.is_peered.ensures ∙ e
 
 pub returns-then-is_peered : goal.returns-then-is_peered
 returns-then-is_peered c =
-    
     rw (pick_true _ _ _ (test_of (search) true c.if-is_peered.true), ← c.get64.ensures) (c.refuse.ensures _)
 
 pub returns : goal.returns
 returns c =
-    
     rw (pick-false _ _ _ (test_of (search) false c.if-is_peered.false)) c.register_id.ensures

@@ -8,7 +8,6 @@ use mathlib.Core.Path.{◌≡◌, sym, ◌∙◌}
 use Rattle.model.proofs.Rules.{sound-facts}
 use Rattle.registration.proofs.Laws.{refused_by, duplicate, listed, unlisted, place-less}
 use Rattle.model.specs.Peers.{listed_id}
-use borrow.Author.Rules.{rules}
 use Rattle.registration.proofs.register_peer.Goals as goal
 use Rattle.registration.proofs.register_peer.Lts as lts
 use Rattle.registration.proofs.register_peer.Reads as reads
@@ -16,7 +15,6 @@ use Rattle.registration.proofs.register_peer.Tie as tie
 
 pub returns-then-is_refused : goal.returns-then-is_refused
 returns-then-is_refused c =
-    
     rw (duplicate _ _ _ _ c.get64-handle.ensures (sym c.is_refused.ensures ∙ c.if-is_refused.true)) (c.refuse.ensures _)
 
 handle-of : (c : (lts.After-id_of tie.the-claims reads.Pre reads.Post)) → c.get64-handle.result ≡ reg_handle c.args.message.now
@@ -34,18 +32,12 @@ listed_id-found-requires c = (sound-facts _ c.requires.0).ids
 
 pub register_listed-requires : goal.register_listed-requires
 register_listed-requires c =
-    
-    
     (omega arith, place-less _ _ _ (sound-facts _ c.requires.0).ids (found_of (search) _ c.in-At.is), omega arith, omega arith)
 
 pub returns-in-At : goal.returns-in-At
 returns-in-At c =
-    
-    
     rw (listed _ _ _ _ (handle-of (search)) _ (not-refused (search)) (found_of (search) _ c.in-At.is)) c.register_listed.ensures
 
 pub returns-in-Nowhere : goal.returns-in-Nowhere
 returns-in-Nowhere c =
-    
-    
     rw (unlisted _ _ _ _ (handle-of (search)) (not-refused (search)) (found_of (search) _ c.in-Nowhere.is)) (c.refuse-in-Nowhere.ensures _)

@@ -3,7 +3,6 @@
 use native.Mathlib.Omega.{arith}
 use borrow.Author.Tests.{lt-ltb, le-ltb}
 use Rattle.basics.specs.Choice.{pick}
-use borrow.Author.Rules.{rules}
 use Rattle.registration.proofs.told_major.Goals as goal
 
 pub returns-then-own-asked : goal.returns-then-own-asked

@@ -2,7 +2,6 @@ use Rattle.model.specs.Layout.{removal_of}
 use native.Mathlib.Omega.{arith}
 use mathlib.Core.Path.{◌∙◌}
 use Rattle.removal.proofs.Laws.{block_read}
-use borrow.Author.Rules.{rules}
 use Rattle.removal.proofs.block_now.Goals as goal
 
 pub returns : goal.returns

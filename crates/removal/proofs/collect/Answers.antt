@@ -1,7 +1,6 @@
 use Rattle.model.specs.Layout.{removal_of}
 use native.Mathlib.Omega.{arith}
 use Rattle.removal.proofs.Laws.{removal-kept, held_kept, collects-last, collects-some}
-use borrow.Author.Rules.{rules}
 use Rattle.removal.proofs.collect.Goals as goal
 
 pub settle-requires : goal.settle-requires

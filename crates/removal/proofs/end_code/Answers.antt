@@ -4,7 +4,6 @@ use mathlib.Core.Path.{sym, ap, ◌∙◌}
 use Rattle.model.specs.Work.{failing_code}
 use Rattle.removal_state.proofs.Laws.{cancelled-is}
 use Rattle.removal.proofs.Laws.{code-cancelled, code-settled, code-failing}
-use borrow.Author.Rules.{rules}
 use Rattle.removal.proofs.end_code.Goals as goal
 
 pub returns-then-is_cancelled : goal.returns-then-is_cancelled

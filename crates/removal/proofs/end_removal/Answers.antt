@@ -1,8 +1,6 @@
 use mathlib.Core.Path.{sym, ◌∙◌}
 use Rattle.removal_state.proofs.Laws.{channel-is, request-is}
 use Rattle.removal.proofs.Laws.{ends-replied, ends-silent}
-use borrow.Author.Rules.{rules}
-use native.Mathlib.Omega.{arith}
 use Rattle.removal.proofs.end_removal.Goals as goal
 
 pub returns-then-still_registered : goal.returns-then-still_registered

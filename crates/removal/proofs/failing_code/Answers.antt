@@ -1,6 +1,4 @@
 use Rattle.model.specs.Work.{failing_code}
-use borrow.Author.Rules.{rules}
-use native.Mathlib.Omega.{arith}
 use Rattle.removal.proofs.failing_code.Goals as goal
 
 pub returns-in-At : goal.returns-in-At

@@ -1,7 +1,5 @@
 use Rattle.basics.specs.Choice.{◌or◌}
 use Rattle.removal_state.proofs.Laws.{cancelled-is, count-is, position-is}
-use borrow.Author.Rules.{rules}
-use native.Mathlib.Omega.{arith}
 use Rattle.removal.proofs.is_over.Goals as goal
 
 pub returns-then-is_cancelled : goal.returns-then-is_cancelled

@@ -1,15 +1,10 @@
 use native.Mathlib.Omega.{arith}
-use Prim.Native.Nat.{◌≤◌, ◌-◌}
+use Prim.Native.Nat.{◌-◌}
 use mathlib.Core.Path.{◌≡◌, refl, ◌∙◌}
-use lib.ListN.{length}
-use lib.Seq.{sets}
 use Rattle.basics.specs.Choice.{joined}
-use Rattle.model.specs.Layout.{reply_header_bytes}
 use Rattle.model.proofs.Replies.{result-length}
 use Rattle.records.proofs.Parts.{result-more}
-use Rattle.removal.specs.Fits.{late_record}
 use Rattle.removal.proofs.Laws.{late-record}
-use borrow.Author.Rules.{rules}
 use Rattle.removal.proofs.put_late_records.Goals as goal
 
 pub result_at-result-requires : goal.result_at-result-requires
@@ -20,9 +15,6 @@ put_result-requires c = (omega arith, c.requires.0, omega arith)
 
 pub loop-i-preserved : goal.loop-i-preserved
 loop-i-preserved c =
-    
-    
-    
     (omega arith, omega arith, result-more _ (λ i. result-length _ _ _ _) _ _ c.loop-i.invariant.2 c.put_result.ensures (late-record c.args.state.now c.loop-i.i (omega arith) c.address_of-addr.ensures c.size_of-size.ensures c.result_at-result.ensures))
 
 pub returns : goal.returns

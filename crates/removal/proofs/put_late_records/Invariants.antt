@@ -1,14 +1,10 @@
-use native.Mathlib.Omega.{arith}
 use Prim.Native.Nat.{◌≤◌, ◌-◌}
-use mathlib.Core.Path.{◌≡◌, refl, ◌∙◌}
+use mathlib.Core.Path.{◌≡◌}
 use lib.ListN.{length}
 use lib.Seq.{sets}
 use Rattle.basics.specs.Choice.{joined}
 use Rattle.model.specs.Layout.{reply_header_bytes}
-use Rattle.model.proofs.Replies.{result-length}
-use Rattle.records.proofs.Parts.{result-more}
 use Rattle.removal.specs.Fits.{late_record}
-use Rattle.removal.proofs.Laws.{late-record}
 use Rattle.removal.proofs.put_late_records.Given as goal
 
 abbrev pub invariant-loop-i : goal.invariant-loop-i

@@ -2,7 +2,6 @@ use native.Mathlib.Omega.{arith}
 use Rattle.model.specs.Layout.{removal_of}
 use Rattle.removal_state.proofs.Laws.{count-is, handle-is, request-is}
 use Rattle.removal.proofs.Laws.{late-written}
-use borrow.Author.Rules.{rules}
 use Rattle.removal.proofs.put_late_reply.Goals as goal
 
 pub put_results_header-length-requires : goal.put_results_header-length-requires

@@ -1,6 +1,4 @@
 use Rattle.removal.proofs.Laws.{result-settled, result-cancelled, result-failing, result-after}
-use borrow.Author.Rules.{rules}
-use native.Mathlib.Omega.{arith}
 use Rattle.removal.proofs.result_at.Goals as goal
 
 pub returns-then-i-position : goal.returns-then-i-position

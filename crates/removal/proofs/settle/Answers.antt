@@ -1,7 +1,6 @@
 use Rattle.model.specs.Layout.{removal_of}
 use native.Mathlib.Omega.{arith}
 use mathlib.Core.Path.{refl, ◌∙◌}
-use borrow.Author.Rules.{rules}
 use Rattle.removal.proofs.settle.Goals as goal
 
 pub settled-requires : goal.settled-requires

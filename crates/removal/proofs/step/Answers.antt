@@ -1,7 +1,6 @@
 use native.Mathlib.Omega.{arith}
 use mathlib.Core.Path.{sym, ◌∙◌}
 use Rattle.removal.proofs.Laws.{facts, fits, can-work, step-over, step-found}
-use borrow.Author.Rules.{rules}
 use Rattle.removal.proofs.step.Goals as goal
 
 pub end_step-requires : goal.end_step-requires
@@ -18,7 +17,5 @@ work_found-requires c = let p = c.requires in (can-work _ p.0 p.1 (sym c.is_over
 
 pub returns : goal.returns
 returns c =
-    
-    
     step-found _ _ _ (sym c.is_over.ensures ∙ c.if-is_over.false) c.block_now-found.ensures
     c.work_found.ensures

@@ -3,7 +3,6 @@ use Rattle.model.specs.Layout.{removal_of}
 use native.Mathlib.Omega.{arith}
 use borrow.Author.Tests.{eq-eqb, ne_eqb}
 use Rattle.removal_state.proofs.Laws.{channel-is, handle-is}
-use borrow.Author.Rules.{rules}
 use Rattle.removal.proofs.still_registered.Goals as goal
 
 pub returns-then-stage_of-ne-REGISTERED : goal.returns-then-stage_of-ne-REGISTERED

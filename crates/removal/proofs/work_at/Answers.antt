@@ -1,7 +1,5 @@
 use mathlib.Core.Path.{refl, sym, ◌∙◌}
 use Rattle.removal.proofs.Laws.{goes_on_lem, at-permanent, at-movable}
-use borrow.Author.Rules.{rules}
-use native.Mathlib.Omega.{arith}
 use Rattle.removal.proofs.work_at.Goals as goal
 
 pub permanent_of-requires : goal.permanent_of-requires

@@ -1,7 +1,5 @@
 use mathlib.Core.Path.{◌∙◌}
 use Rattle.removal.proofs.Laws.{at-nowhere}
-use borrow.Author.Rules.{rules}
-use native.Mathlib.Omega.{arith}
 use Rattle.removal.proofs.work_found.Goals as goal
 
 pub work_at-requires : goal.work_at-requires

@@ -3,7 +3,6 @@ use native.Mathlib.Omega.{arith}
 use mathlib.Core.Path.{sym, ◌∙◌}
 use Rattle.removal_state.proofs.Laws.{collected-is}
 use Rattle.removal.proofs.Laws.{works-nowork, works-collects}
-use borrow.Author.Rules.{rules}
 use Rattle.removal.proofs.work_on.Goals as goal
 
 pub returns-then-configured_of-eq0 : goal.returns-then-configured_of-eq0

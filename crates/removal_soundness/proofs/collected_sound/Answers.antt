@@ -3,8 +3,6 @@
 use borrow.Author.Tests.{eq-eqb, ne_eqb}
 use Rattle.basics.specs.Choice.{pick}
 use Rattle.model.specs.State.{collected_sound}
-use borrow.Author.Rules.{rules}
-use native.Mathlib.Omega.{arith}
 use Rattle.removal_soundness.proofs.collected_sound.Goals as goal
 
 pub returns-then-room-eq0 : goal.returns-then-room-eq0

@@ -4,7 +4,6 @@ use mathlib.Core.Path.{sym, ◌∙◌}
 use native.Mathlib.Omega.{arith}
 use Rattle.basics.proofs.Loops.{refute}
 use Rattle.removal_soundness.proofs.Rules.{none-outstanding, outstanding-rules, outstanding-last}
-use borrow.Author.Rules.{rules}
 use Rattle.removal_soundness.proofs.outstanding_sound.Goals as goal
 
 pub returns-then-state-ne1 : goal.returns-then-state-ne1

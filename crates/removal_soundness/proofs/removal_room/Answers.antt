@@ -4,7 +4,6 @@ use mathlib.Core.Path.{sym, ◌∙◌}
 use native.Mathlib.Omega.{arith}
 use Rattle.model.specs.Layout.{removal_of}
 use Rattle.removal_soundness.proofs.Rules.{room-there, room-none}
-use borrow.Author.Rules.{rules}
 use Rattle.removal_soundness.proofs.removal_room.Goals as goal
 
 pub returns-then-at-n : goal.returns-then-at-n

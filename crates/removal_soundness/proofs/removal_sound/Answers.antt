@@ -36,7 +36,6 @@ returns-then-not-collected_sound c = refute _ (λ t. clash _ (no _ c.collected_s
 pub returns : goal.returns
 unfolding removal_of
 returns c =
-    
     c.results_sound.ensures
     ∙ sym (removal-last _ _ _
     (record {

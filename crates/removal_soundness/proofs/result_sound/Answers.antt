@@ -1,8 +1,6 @@
 use borrow.Author.Tests.{eq-eqb, ne_eqb}
 use Rattle.basics.specs.Choice.{◌or◌}
 use Rattle.model.specs.State.{result_sound}
-use borrow.Author.Rules.{rules}
-use native.Mathlib.Omega.{arith}
 use Rattle.removal_soundness.proofs.result_sound.Goals as goal
 
 pub returns-then-res-eq-DR_MEM_RES_OK : goal.returns-then-res-eq-DR_MEM_RES_OK

@@ -3,16 +3,13 @@
 use mathlib.Core.Path.{ap}
 use mathlib.Core.Bool.{not}
 use mathlib.Core.Bool.{true}
-use mathlib.Core.Path.{◌≡◌, sym, ◌∙◌}
-use Prim.Native.Nat.{◌+◌, ◌≤◌, ◌-◌}
+use mathlib.Core.Path.{sym, ◌∙◌}
+use Prim.Native.Nat.{◌-◌}
 use native.Mathlib.Omega.{arith}
-use lib.ListN.{get_or}
-use Rattle.basics.specs.Choice.{every}
-use Rattle.model.specs.Layout.{removal_of, first_result_word}
+use Rattle.model.specs.Layout.{removal_of}
 use Rattle.model.specs.State.{result_sound}
 use Rattle.basics.proofs.Loops.{no, yes, every-none, every_more, every-fails, every-all}
 use Rattle.removal_soundness.proofs.Rules.{results-words}
-use borrow.Author.Rules.{rules}
 use Rattle.removal_soundness.proofs.results_sound.Goals as goal
 
 pub returns-then-not-result_sound : goal.returns-then-not-result_sound

@@ -1,15 +1,12 @@
 -- `removal_soundness::results_sound` meets its contract: every result passed is OK or NOWORK.
 -- Assumes nothing.
 use mathlib.Core.Bool.{true}
-use mathlib.Core.Path.{◌≡◌, sym, ◌∙◌}
+use mathlib.Core.Path.{◌≡◌}
 use Prim.Native.Nat.{◌+◌, ◌≤◌, ◌-◌}
-use native.Mathlib.Omega.{arith}
 use lib.ListN.{get_or}
 use Rattle.basics.specs.Choice.{every}
-use Rattle.model.specs.Layout.{removal_of, first_result_word}
+use Rattle.model.specs.Layout.{first_result_word}
 use Rattle.model.specs.State.{result_sound}
-use Rattle.basics.proofs.Loops.{no, yes, every-none, every_more, every-fails, every-all}
-use Rattle.removal_soundness.proofs.Rules.{results-words}
 use Rattle.removal_soundness.proofs.results_sound.Given as goal
 
 abbrev pub invariant-loop-i : goal.invariant-loop-i

@@ -1,8 +1,6 @@
 use borrow.Author.Tests.{eq-eqb, ne_eqb}
 use Rattle.basics.specs.Choice.{pick}
 use Rattle.model.specs.State.{room_at}
-use borrow.Author.Rules.{rules}
-use native.Mathlib.Omega.{arith}
 use Rattle.removal_soundness.proofs.room_at.Goals as goal
 
 pub returns-then-configured_of-ne1 : goal.returns-then-configured_of-ne1

@@ -2,7 +2,6 @@ use native.Mathlib.Omega.{arith}
 use mathlib.Core.Path.{sym, ◌∙◌}
 use Rattle.model.specs.State.{room_at}
 use Rattle.model.proofs.Sounds.{named-less}
-use borrow.Author.Rules.{rules}
 use Rattle.removal_soundness.proofs.room_of.Goals as goal
 
 pub room_at-requires : goal.room_at-requires

@@ -2,7 +2,6 @@ use mathlib.Core.Path.{sym}
 use native.Mathlib.Omega.{arith}
 use Rattle.model.specs.Layout.{removal_of}
 use Rattle.model.proofs.RemovalWords.{collecting-words}
-use borrow.Author.Rules.{rules}
 use Rattle.removal_state.proofs.add_pages.Goals as goal
 
 pub returns : goal.returns

@@ -1,7 +1,5 @@
 use Rattle.model.specs.Layout.{with_removal}
 use Rattle.model.specs.Memory.{new_removal}
-use borrow.Author.Rules.{rules}
-use native.Mathlib.Omega.{arith}
 use Rattle.removal_state.proofs.begin.Goals as goal
 
 pub returns : goal.returns

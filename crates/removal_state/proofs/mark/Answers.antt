@@ -1,8 +1,6 @@
 use mathlib.Core.Path.{sym}
 use Rattle.model.specs.Layout.{removal_of}
 use Rattle.model.proofs.RemovalWords.{marked-words}
-use borrow.Author.Rules.{rules}
-use native.Mathlib.Omega.{arith}
 use Rattle.removal_state.proofs.mark.Goals as goal
 
 pub returns : goal.returns

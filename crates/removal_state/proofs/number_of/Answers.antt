@@ -1,7 +1,6 @@
 use native.Mathlib.Omega.{arith}
 use mathlib.Core.Path.{sym}
 use Rattle.removal_state.proofs.Laws.{number_past}
-use borrow.Author.Rules.{rules}
 use Rattle.removal_state.proofs.number_of.Goals as goal
 
 pub returns-then-n-i : goal.returns-then-n-i

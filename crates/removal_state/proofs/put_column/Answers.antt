@@ -1,14 +1,11 @@
 use native.Mathlib.Omega.{arith}
-use Prim.Native.Nat.{ℕ, ◌+◌, ◌*◌, ◌≤◌, ◌-◌}
-use mathlib.Core.Path.{◌≡◌, refl, ◌∙◌}
-use lib.ListN.{take}
-use lib.Seq.{sets}
+use Prim.Native.Nat.{ℕ, ◌+◌, ◌*◌, ◌-◌}
+use mathlib.Core.Path.{refl, ◌∙◌}
 use Rattle.wire.specs.BigEndian.{number_at}
 use Rattle.basics.specs.Choice.{tabulate}
 use Rattle.model.specs.Layout.{most_records, pair_bytes}
 use Rattle.basics.proofs.Choice.{tabulate-at, tabulate-length}
 use Rattle.state.proofs.Runs.{sets_more, sets-done}
-use borrow.Author.Rules.{rules}
 use Rattle.removal_state.proofs.put_column.Goals as goal
 
 pub loop-i-preserved : goal.loop-i-preserved

@@ -1,13 +1,10 @@
-use native.Mathlib.Omega.{arith}
-use Prim.Native.Nat.{ℕ, ◌+◌, ◌*◌, ◌≤◌, ◌-◌}
-use mathlib.Core.Path.{◌≡◌, refl, ◌∙◌}
+use Prim.Native.Nat.{◌+◌, ◌*◌, ◌≤◌, ◌-◌}
+use mathlib.Core.Path.{◌≡◌}
 use lib.ListN.{take}
 use lib.Seq.{sets}
 use Rattle.wire.specs.BigEndian.{number_at}
 use Rattle.basics.specs.Choice.{tabulate}
 use Rattle.model.specs.Layout.{most_records, pair_bytes}
-use Rattle.basics.proofs.Choice.{tabulate-at, tabulate-length}
-use Rattle.state.proofs.Runs.{sets_more, sets-done}
 use Rattle.removal_state.proofs.put_column.Given as goal
 
 abbrev pub invariant-loop-i : goal.invariant-loop-i

@@ -2,8 +2,6 @@ use mathlib.Core.Path.{◌∙◌, sym}
 use mathlib.Core.Bool.{true, false}
 use Rattle.basics.specs.Choice.{pick}
 use Rattle.requests.proofs.Laws.{short-is, status-is, cancel-is}
-use borrow.Author.Rules.{rules}
-use native.Mathlib.Omega.{arith}
 use Rattle.requests.proofs.decode.Goals as goal
 
 pub returns-then-has_nothing : goal.returns-then-has_nothing

@@ -1,8 +1,6 @@
 use borrow.Author.Tests.{ne_eqb}
 use Rattle.basics.specs.Choice.{◌and◌}
 use Rattle.model.specs.Memory.{has_nothing}
-use borrow.Author.Rules.{rules}
-use native.Mathlib.Omega.{arith}
 use Rattle.requests.proofs.has_nothing.Goals as goal
 
 pub returns-then-get32-ne0 : goal.returns-then-get32-ne0

@@ -2,7 +2,6 @@ use native.Mathlib.Omega.{arith}
 use mathlib.Core.Path.{sym}
 use Rattle.basics.proofs.Loops.{refute}
 use Rattle.requests.proofs.Laws.{counted, counted-last}
-use borrow.Author.Rules.{rules}
 use Rattle.requests.proofs.has_records.Goals as goal
 
 pub returns : goal.returns

@@ -1,8 +1,6 @@
 use borrow.Author.Tests.{lt-ltb, le-ltb}
 use Rattle.basics.specs.Choice.{pick}
 use Rattle.model.specs.Memory.{request_number}
-use borrow.Author.Rules.{rules}
-use native.Mathlib.Omega.{arith}
 use Rattle.requests.proofs.number.Goals as goal
 
 pub returns-then-b-lt-MEMORY_HEADER_BYTES : goal.returns-then-b-lt-MEMORY_HEADER_BYTES

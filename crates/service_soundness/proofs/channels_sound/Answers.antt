@@ -1,15 +1,10 @@
 -- `service_soundness::channels_sound` meets its contract: every channel passed is closed or ready.
 -- Assumes nothing.
 use mathlib.Core.Bool.{true}
-use mathlib.Core.Path.{◌≡◌}
-use Prim.Native.Nat.{◌≤◌, ◌-◌}
+use Prim.Native.Nat.{◌-◌}
 use native.Mathlib.Omega.{arith}
-use lib.Dec.{leb}
 use borrow.Author.Tests.{lt-leb, le-leb}
-use Rattle.basics.specs.Choice.{every}
-use Rattle.model.specs.Layout.{ready_at, channel_count}
 use Rattle.basics.proofs.Loops.{every-none, every_more, every-fails, every-all}
-use borrow.Author.Rules.{rules}
 use Rattle.service_soundness.proofs.channels_sound.Goals as goal
 
 pub returns-then-state-c-gt1 : goal.returns-then-state-c-gt1

@@ -3,12 +3,9 @@
 use mathlib.Core.Bool.{true}
 use mathlib.Core.Path.{◌≡◌}
 use Prim.Native.Nat.{◌≤◌, ◌-◌}
-use native.Mathlib.Omega.{arith}
 use lib.Dec.{leb}
-use borrow.Author.Tests.{lt-leb, le-leb}
 use Rattle.basics.specs.Choice.{every}
 use Rattle.model.specs.Layout.{ready_at, channel_count}
-use Rattle.basics.proofs.Loops.{every-none, every_more, every-fails, every-all}
 use Rattle.service_soundness.proofs.channels_sound.Given as goal
 
 abbrev pub invariant-loop-c : goal.invariant-loop-c

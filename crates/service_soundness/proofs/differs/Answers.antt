@@ -1,8 +1,6 @@
 use Rattle.model.specs.Layout.{stage_at}
 use Rattle.service_soundness.proofs.Rules.{differs-other, differs-same}
 use mathlib.Core.Path.{sym}
-use borrow.Author.Rules.{rules}
-use native.Mathlib.Omega.{arith}
 use Rattle.service_soundness.proofs.differs.Goals as goal
 
 pub returns-then-state-at : goal.returns-then-state-at

@@ -1,14 +1,11 @@
 use native.Mathlib.Omega.{arith}
-use mathlib.Core.Bool.{true, false, not}
-use mathlib.Core.Path.{◌≡◌, refl, sym, ◌∙◌}
-use Prim.Native.Nat.{◌≤◌, ◌-◌}
-use lib.Dec.{eqb}
-use Rattle.basics.specs.Choice.{◌or◌, every}
-use Rattle.model.specs.Layout.{stage_idle, stage_at, handle_at}
+use mathlib.Core.Bool.{true, false}
+use mathlib.Core.Path.{refl, sym, ◌∙◌}
+use Prim.Native.Nat.{◌-◌}
+use Rattle.basics.specs.Choice.{◌or◌}
 use Rattle.basics.proofs.Loops.{every-none, every-all}
 use Rattle.basics.proofs.Choice.{clash}
 use Rattle.service_soundness.proofs.Rules.{apart-idle, apart-live, apart_more}
-use borrow.Author.Rules.{rules}
 use Rattle.service_soundness.proofs.handle_alone.Goals as goal
 
 pub loop-j-preserved : goal.loop-j-preserved

@@ -1,13 +1,9 @@
-use native.Mathlib.Omega.{arith}
-use mathlib.Core.Bool.{true, false, not}
-use mathlib.Core.Path.{◌≡◌, refl, sym, ◌∙◌}
+use mathlib.Core.Bool.{true, not}
+use mathlib.Core.Path.{◌≡◌}
 use Prim.Native.Nat.{◌≤◌, ◌-◌}
 use lib.Dec.{eqb}
 use Rattle.basics.specs.Choice.{◌or◌, every}
 use Rattle.model.specs.Layout.{stage_idle, stage_at, handle_at}
-use Rattle.basics.proofs.Loops.{every-none, every-all}
-use Rattle.basics.proofs.Choice.{clash}
-use Rattle.service_soundness.proofs.Rules.{apart-idle, apart-live, apart_more}
 use Rattle.service_soundness.proofs.handle_alone.Given as goal
 
 abbrev pub invariant-loop-j : goal.invariant-loop-j

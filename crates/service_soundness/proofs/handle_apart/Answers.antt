@@ -1,14 +1,11 @@
 use mathlib.Core.Path.{ap}
 use native.Mathlib.Omega.{arith}
 use mathlib.Core.Bool.{true, not}
-use mathlib.Core.Path.{◌≡◌, sym, ◌∙◌}
-use Prim.Native.Nat.{◌≤◌, ◌-◌}
-use lib.Dec.{eqb}
-use Rattle.basics.specs.Choice.{◌or◌, every}
-use Rattle.model.specs.Layout.{stage_idle, stage_at, handle_at}
+use mathlib.Core.Path.{sym, ◌∙◌}
+use Prim.Native.Nat.{◌-◌}
+use Rattle.basics.specs.Choice.{◌or◌}
 use Rattle.basics.proofs.Loops.{no, yes, every-none, every_more, every-fails, every-all}
 use Rattle.service_soundness.proofs.Rules.{apart-idle, apart-live}
-use borrow.Author.Rules.{rules}
 use Rattle.service_soundness.proofs.handle_apart.Goals as goal
 
 pub returns-then-not-differs : goal.returns-then-not-differs

@@ -1,12 +1,9 @@
-use native.Mathlib.Omega.{arith}
 use mathlib.Core.Bool.{true, not}
-use mathlib.Core.Path.{◌≡◌, sym, ◌∙◌}
+use mathlib.Core.Path.{◌≡◌}
 use Prim.Native.Nat.{◌≤◌, ◌-◌}
 use lib.Dec.{eqb}
 use Rattle.basics.specs.Choice.{◌or◌, every}
 use Rattle.model.specs.Layout.{stage_idle, stage_at, handle_at}
-use Rattle.basics.proofs.Loops.{no, yes, every-none, every_more, every-fails, every-all}
-use Rattle.service_soundness.proofs.Rules.{apart-idle, apart-live}
 use Rattle.service_soundness.proofs.handle_apart.Given as goal
 
 abbrev pub invariant-loop-j : goal.invariant-loop-j

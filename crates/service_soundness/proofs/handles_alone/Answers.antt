@@ -2,17 +2,13 @@
 -- Assumes nothing.
 use mathlib.Core.Path.{ap}
 use mathlib.Core.Bool.{not}
-use mathlib.Core.Bool.{true, false}
-use mathlib.Core.Path.{◌≡◌, refl, sym}
-use Prim.Native.Nat.{◌≤◌, ◌-◌}
+use mathlib.Core.Bool.{false}
+use mathlib.Core.Path.{refl, sym}
+use Prim.Native.Nat.{◌-◌}
 use native.Mathlib.Omega.{arith}
-use Rattle.basics.specs.Choice.{every}
-use Rattle.model.specs.State.{handle_apart}
 use Rattle.basics.proofs.Loops.{every-none, every_more, every-all}
 use Rattle.basics.proofs.Choice.{clash}
 use borrow.Author.Tests.{not-false}
-use Rattle.model.specs.Layout.{place_count}
-use borrow.Author.Rules.{rules}
 use Rattle.service_soundness.proofs.handles_alone.Goals as goal
 
 pub loop-k-preserved : goal.loop-k-preserved

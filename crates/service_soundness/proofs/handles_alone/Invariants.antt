@@ -1,14 +1,10 @@
 -- `service_soundness::handles_alone` meets its contract: no handle passed stands before it.
 -- Assumes nothing.
-use mathlib.Core.Bool.{true, false}
-use mathlib.Core.Path.{◌≡◌, refl, sym}
+use mathlib.Core.Bool.{true}
+use mathlib.Core.Path.{◌≡◌}
 use Prim.Native.Nat.{◌≤◌, ◌-◌}
-use native.Mathlib.Omega.{arith}
 use Rattle.basics.specs.Choice.{every}
 use Rattle.model.specs.State.{handle_apart}
-use Rattle.basics.proofs.Loops.{every-none, every_more, every-all}
-use Rattle.basics.proofs.Choice.{clash}
-use borrow.Author.Tests.{not-false}
 use Rattle.model.specs.Layout.{place_count}
 use Rattle.service_soundness.proofs.handles_alone.Given as goal
 

@@ -1,8 +1,6 @@
 -- `service_soundness::handles_apart` meets its contract: by the quick test or by the exact one.
 -- Assumes nothing.
 use mathlib.Core.Path.{sym}
-use borrow.Author.Rules.{rules}
-use native.Mathlib.Omega.{arith}
 use Rattle.service_soundness.proofs.handles_apart.Goals as goal
 
 pub returns-then-handles_alone : goal.returns-then-handles_alone

@@ -5,7 +5,6 @@ use lib.Dec.{leb}
 use borrow.Author.Tests.{lt-leb, le-leb}
 use Rattle.basics.specs.Choice.{◌and◌}
 use Rattle.model.specs.State.{is_ours, our_handle}
-use borrow.Author.Rules.{rules}
 use Rattle.service_soundness.proofs.is_ours.Goals as goal
 
 pub returns-then-handle-our_handle : goal.returns-then-handle-our_handle

@@ -7,7 +7,6 @@ use Rattle.basics.specs.Choice.{◌or◌}
 use Rattle.basics.proofs.Choice.{clash}
 use Rattle.basics.proofs.Loops.{refute, no, yes}
 use Rattle.model.proofs.Rules.{Live, ours-facts, ours-test, service-idle, live-rules, live-last}
-use borrow.Author.Rules.{rules}
 use Rattle.service_soundness.proofs.service_sound.Goals as goal
 use Rattle.service_soundness.proofs.service_sound.Lts as lts
 use Rattle.service_soundness.proofs.service_sound.Reads as reads

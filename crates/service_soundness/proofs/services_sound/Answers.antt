@@ -3,24 +3,17 @@
 use mathlib.Core.Path.{ap}
 use mathlib.Core.Bool.{not}
 use mathlib.Core.Bool.{true}
-use mathlib.Core.Path.{◌≡◌}
-use Prim.Native.Nat.{◌≤◌, ◌-◌}
+use Prim.Native.Nat.{◌-◌}
 use native.Mathlib.Omega.{arith}
-use Rattle.basics.specs.Choice.{every}
-use Rattle.model.specs.State.{service_sound_at}
 use Rattle.basics.proofs.Loops.{no, yes, every-none, every_more, every-fails, every-all}
-use Rattle.model.specs.Layout.{place_count}
-use borrow.Author.Rules.{rules}
 use Rattle.service_soundness.proofs.services_sound.Goals as goal
 
 pub returns-then-not-service_sound : goal.returns-then-not-service_sound
 returns-then-not-service_sound c =
-    
     every-fails _ _ _ c.loop-k-test.true (no _ c.service_sound.ensures (ap not c.if-not-service_sound.true))
 
 pub loop-k-preserved : goal.loop-k-preserved
 loop-k-preserved c =
-    
     (omega arith, every_more _ _ c.loop-k.invariant.1 (yes _ c.service_sound.ensures (ap not c.if-not-service_sound.false)))
 
 pub returns : goal.returns

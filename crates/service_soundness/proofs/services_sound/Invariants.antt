@@ -3,10 +3,8 @@
 use mathlib.Core.Bool.{true}
 use mathlib.Core.Path.{◌≡◌}
 use Prim.Native.Nat.{◌≤◌, ◌-◌}
-use native.Mathlib.Omega.{arith}
 use Rattle.basics.specs.Choice.{every}
 use Rattle.model.specs.State.{service_sound_at}
-use Rattle.basics.proofs.Loops.{no, yes, every-none, every_more, every-fails, every-all}
 use Rattle.model.specs.Layout.{place_count}
 use Rattle.service_soundness.proofs.services_sound.Given as goal
 

@@ -1,8 +1,6 @@
 -- `services::put_header` meets its contract: the two fields, one after the other.
 -- Assumes nothing.
 use Rattle.wire.specs.BigEndian.{bytes_of}
-use borrow.Author.Rules.{rules}
-use native.Mathlib.Omega.{arith}
 use Rattle.services.proofs.put_header.Goals as goal
 
 pub returns : goal.returns

@@ -1,10 +1,9 @@
 -- `services::put_id` meets its contract. The loop's invariant: the bytes passed are stored. The measure is what is left of the id.
 -- Assumes nothing.
 use mathlib.Core.Path.{◌≡◌, refl, ◌∙◌}
-use Prim.Native.Nat.{◌≤◌, ◌<◌, ◌-◌}
+use Prim.Native.Nat.{◌<◌, ◌-◌}
 use native.Mathlib.Omega.{arith}
-use lib.ListN.{length, take, length-set}
-use lib.Seq.{sets}
+use lib.ListN.{length, length-set}
 use Rattle.wire.proofs.Laws.{sets_more}
 use Rattle.services.proofs.Rule.{id-there}
 use borrow.Author.Rules.{rules}
@@ -13,7 +12,6 @@ use Rattle.services.proofs.put_id.Goals as goal
 pub loop-i-preserved : goal.loop-i-preserved
 loop-i-preserved c =
     let inv = c.loop-i.invariant in
-    
     let there = id-there c.requires.0 in
     let below : c.loop-i.i < length c.args.row.id = omega arith in
     (omega arith, rw length-set inv.1, sets_more _ c.args.row.id _ _ below inv.2)

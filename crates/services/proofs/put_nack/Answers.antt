@@ -5,7 +5,6 @@ use native.Mathlib.Omega.{arith}
 use Rattle.wire.specs.BigEndian.{bytes_of}
 use Rattle.model.specs.Messages.{nack}
 use Rattle.services.proofs.Parts.{message-stored}
-use borrow.Author.Rules.{rules}
 use Rattle.services.proofs.put_nack.Goals as goal
 
 pub returns : goal.returns

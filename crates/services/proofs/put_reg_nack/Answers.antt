@@ -5,11 +5,9 @@ use native.Mathlib.Omega.{arith}
 use Rattle.wire.specs.BigEndian.{bytes_of}
 use Rattle.model.specs.Messages.{reg_nack}
 use Rattle.services.proofs.Parts.{message-stored}
-use borrow.Author.Rules.{rules}
 use Rattle.services.proofs.put_reg_nack.Goals as goal
 
 pub returns : goal.returns
 unfolding bytes_of reg_nack
 returns c =
-    
     message-stored _ 18 _ _ refl refl (omega arith) (rw (c.put16.ensures, c.put_result.ensures))

@@ -7,14 +7,11 @@ use lib.ListN.{length}
 use Rattle.wire.specs.BigEndian.{bytes_of}
 use Rattle.model.specs.Messages.{Service, reg_req}
 use Rattle.services.proofs.Parts.{message-stored}
-use borrow.Author.Rules.{rules}
 use Rattle.services.proofs.put_reg_req.Goals as goal
 
 pub returns : goal.returns
 unfolding bytes_of reg_req
 returns c =
-    
-    
     let read = c.row_of-row in
     let long = ap (λ (s : Service). length s.id) read.ensures.same in
     message-stored _ (12 + read.result.length) _ _ (omega (arith, read.ensures.fits.size)) (omega arith) (omega arith)

@@ -2,7 +2,6 @@
 -- Assumes nothing.
 use Rattle.model.specs.Messages.{unreg}
 use borrow.Author.Rules.{rules}
-use native.Mathlib.Omega.{arith}
 use Rattle.services.proofs.put_unreg.Goals as goal
 
 pub returns : goal.returns

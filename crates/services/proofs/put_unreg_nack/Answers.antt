@@ -2,7 +2,6 @@
 -- Assumes nothing.
 use Rattle.model.specs.Messages.{unreg_nack}
 use borrow.Author.Rules.{rules}
-use native.Mathlib.Omega.{arith}
 use Rattle.services.proofs.put_unreg_nack.Goals as goal
 
 pub returns : goal.returns

@@ -1,8 +1,6 @@
 use borrow.Author.Tests.{eq-eqb, ne_eqb}
 use Rattle.basics.specs.Choice.{pick, ◌or◌}
 use Rattle.model.specs.Messages.{route}
-use borrow.Author.Rules.{rules}
-use native.Mathlib.Omega.{arith}
 use Rattle.services.proofs.route.Goals as goal
 
 pub returns-then-service-eq-DEVICE_SERVICE : goal.returns-then-service-eq-DEVICE_SERVICE

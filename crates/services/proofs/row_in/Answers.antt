@@ -1,8 +1,6 @@
 -- `services::row_in` meets its contract: the rule of the whole table, at one row.
 -- Assumes nothing.
 use Rattle.services.proofs.Rule.{rule-at}
-use borrow.Author.Rules.{rules}
-use native.Mathlib.Omega.{arith}
 use Rattle.services.proofs.row_in.Goals as goal
 
 pub returns : goal.returns

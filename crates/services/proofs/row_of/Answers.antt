@@ -4,8 +4,6 @@ use mathlib.Core.Path.{refl}
 use Rattle.basics.specs.Choice.{◌and◌, every}
 use Rattle.model.specs.Messages.{services}
 use Rattle.services.specs.Table.{ends_in_zero, row_fits}
-use borrow.Author.Rules.{rules}
-use native.Mathlib.Omega.{arith}
 use Rattle.services.proofs.row_of.Goals as goal
 
 pub row_in-requires : goal.row_in-requires

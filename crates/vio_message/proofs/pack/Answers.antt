@@ -5,7 +5,6 @@ use lib.Dec.{lit≤}
 use lib.Pow.{shl_exact}
 use Rattle.entry.proofs.Shifts.{or-low, or-field}
 use Rattle.vio_message.specs.Words.{packed}
-use borrow.Author.Rules.{rules}
 use Rattle.vio_message.proofs.pack.Goals as goal
 use Rattle.vio_message.proofs.pack.Lts as lts
 use Rattle.vio_message.proofs.pack.Reads as reads

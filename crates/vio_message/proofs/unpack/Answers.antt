@@ -3,8 +3,6 @@
 use Prim.Native.Nat.{◌/◌, ◌^◌}
 use lib.Bits.{and_mask}
 use Rattle.vio_message.specs.Words.{unpacked}
-use borrow.Author.Rules.{rules}
-use native.Mathlib.Omega.{arith}
 use Rattle.vio_message.proofs.unpack.Goals as goal
 use Rattle.vio_message.proofs.unpack.Lts as lts
 use Rattle.vio_message.proofs.unpack.Reads as reads

@@ -3,8 +3,6 @@
 use borrow.Author.Tests.{eq-eqb, ne_eqb, le-leb, lt-leb}
 use Rattle.basics.specs.Choice.{pick, ◌and◌}
 use Rattle.vio_model.specs.Rules.{acknowledged}
-use borrow.Author.Rules.{rules}
-use native.Mathlib.Omega.{arith}
 use Rattle.vio_rules.proofs.acknowledged.Goals as goal
 
 pub returns-then-minor-m : goal.returns-then-minor-m

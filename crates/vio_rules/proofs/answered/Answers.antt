@@ -7,8 +7,6 @@ use Rattle.vio_model.proofs.Words.{sound-facts}
 use Rattle.vio_model.specs.Layout.{end_of}
 use Rattle.vio_model.specs.Rules.{answered}
 use Rattle.vio_rules.proofs.Laws.{ignores}
-use borrow.Author.Rules.{rules}
-use native.Mathlib.Omega.{arith}
 use Rattle.vio_rules.proofs.answered.Goals as goal
 
 pub returns-in_default : goal.returns-in_default

@@ -7,7 +7,6 @@ use Rattle.basics.specs.Choice.{pick, ◌and◌}
 use Rattle.vio_model.proofs.Words.{sound-facts}
 use Rattle.vio_model.specs.Layout.{end_of}
 use Rattle.vio_model.specs.Rules.{answers_open}
-use borrow.Author.Rules.{rules}
 use Rattle.vio_rules.proofs.answers_open.Goals as goal
 
 pub bounds-end-0 : goal.bounds-end-0

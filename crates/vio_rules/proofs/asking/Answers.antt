@@ -3,7 +3,6 @@
 use native.Mathlib.Omega.{arith}
 use Rattle.vio_model.proofs.Words.{sound-facts}
 use Rattle.vio_rules.proofs.Laws.{ends, asks-for}
-use borrow.Author.Rules.{rules}
 use Rattle.vio_rules.proofs.asking.Goals as goal
 
 pub versions_of-list-requires : goal.versions_of-list-requires

@@ -3,8 +3,6 @@
 use mathlib.Core.Path.{sym, ◌∙◌}
 use Rattle.basics.specs.Choice.{pick}
 use Rattle.vio_model.specs.Rules.{heard}
-use borrow.Author.Rules.{rules}
-use native.Mathlib.Omega.{arith}
 use Rattle.vio_rules.proofs.heard.Goals as goal
 
 pub returns-then-is_version : goal.returns-then-is_version

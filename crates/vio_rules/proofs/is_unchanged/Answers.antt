@@ -2,8 +2,6 @@
 -- Assumes nothing.
 use borrow.Author.Tests.{eq-eqb, ne_eqb}
 use Rattle.basics.specs.Choice.{◌and◌}
-use borrow.Author.Rules.{rules}
-use native.Mathlib.Omega.{arith}
 use Rattle.vio_rules.proofs.is_unchanged.Goals as goal
 
 pub returns-then-m-major : goal.returns-then-m-major

@@ -3,8 +3,6 @@
 use borrow.Author.Tests.{eq-eqb, ne_eqb}
 use Rattle.basics.specs.Choice.{◌and◌}
 use Rattle.vio_model.specs.Rules.{is_version}
-use borrow.Author.Rules.{rules}
-use native.Mathlib.Omega.{arith}
 use Rattle.vio_rules.proofs.is_version.Goals as goal
 
 pub returns-then-m-ne-VER_INFO : goal.returns-then-m-ne-VER_INFO

@@ -2,8 +2,6 @@
 -- Assumes nothing.
 use mathlib.Core.Path.{refl}
 use Rattle.vio_model.specs.Rules.{message}
-use borrow.Author.Rules.{rules}
-use native.Mathlib.Omega.{arith}
 use Rattle.vio_rules.proofs.message.Goals as goal
 
 pub returns : goal.returns

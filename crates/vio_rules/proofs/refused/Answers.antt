@@ -9,7 +9,6 @@ use Rattle.basics.specs.Choice.{pick}
 use Rattle.basics.proofs.Choice.{both}
 use Rattle.basics.proofs.Loops.{no, yes}
 use Rattle.vio_model.specs.Rules.{refused}
-use borrow.Author.Rules.{rules}
 use Rattle.vio_rules.proofs.refused.Goals as goal
 
 pub returns-then-not-tells_lower : goal.returns-then-not-tells_lower

@@ -3,7 +3,6 @@
 use native.Mathlib.Omega.{arith}
 use Rattle.vio_model.proofs.Words.{sound-facts}
 use Rattle.vio_rules.proofs.Laws.{refuses, acks, tells}
-use borrow.Author.Rules.{rules}
 use Rattle.vio_rules.proofs.requested.Goals as goal
 
 pub bounds-end-1 : goal.bounds-end-1

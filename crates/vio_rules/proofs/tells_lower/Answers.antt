@@ -2,8 +2,6 @@
 -- Assumes nothing.
 use borrow.Author.Tests.{lt-ltb, le-ltb}
 use Rattle.basics.specs.Choice.{◌and◌, ◌or◌}
-use borrow.Author.Rules.{rules}
-use native.Mathlib.Omega.{arith}
 use Rattle.vio_rules.proofs.tells_lower.Goals as goal
 
 pub returns-then-m-gt0 : goal.returns-then-m-gt0

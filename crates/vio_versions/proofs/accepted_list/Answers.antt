@@ -2,15 +2,13 @@
 -- Assumes nothing.
 use mathlib.Core.Path.{ap}
 use mathlib.Core.Bool.{not}
-use Prim.Native.Nat.{◌≤◌, ◌-◌}
+use Prim.Native.Nat.{◌-◌}
 use mathlib.Core.Bool.{true}
-use mathlib.Core.Path.{◌≡◌, sym, ◌∙◌}
+use mathlib.Core.Path.{sym, ◌∙◌}
 use native.Mathlib.Omega.{arith}
-use Rattle.basics.specs.Choice.{every}
 use Rattle.basics.proofs.Loops.{refute, no, yes, every-none, every_more, every-fails, every-all}
 use Rattle.vio_model.specs.Versions.{version_keeps}
 use Rattle.vio_model.proofs.Versions.{list-rules, list-last}
-use borrow.Author.Rules.{rules}
 use Rattle.vio_versions.proofs.accepted_list.Goals as goal
 
 pub returns-then-list-ne0 : goal.returns-then-list-ne0
@@ -23,7 +21,7 @@ pub returns-then-n-gt-MOST_VERSIONS : goal.returns-then-n-gt-MOST_VERSIONS
 returns-then-n-gt-MOST_VERSIONS c = refute _ (λ t. let r = list-rules _ t in omega arith)
 
 pub returns-then-not-version_keeps : goal.returns-then-not-version_keeps
-returns-then-not-version_keeps c = 
+returns-then-not-version_keeps c =
     every-fails _ _ _ c.loop-i-test.true (no _ c.version_keeps.ensures (ap not c.if-not-version_keeps.true))
     ∙ sym (list-last _ (omega arith) (omega arith) (omega arith))
 

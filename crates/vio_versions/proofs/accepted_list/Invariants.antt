@@ -2,12 +2,9 @@
 -- Assumes nothing.
 use Prim.Native.Nat.{◌≤◌, ◌-◌}
 use mathlib.Core.Bool.{true}
-use mathlib.Core.Path.{◌≡◌, sym, ◌∙◌}
-use native.Mathlib.Omega.{arith}
+use mathlib.Core.Path.{◌≡◌}
 use Rattle.basics.specs.Choice.{every}
-use Rattle.basics.proofs.Loops.{refute, no, yes, every-none, every_more, every-fails, every-all}
 use Rattle.vio_model.specs.Versions.{version_keeps}
-use Rattle.vio_model.proofs.Versions.{list-rules, list-last}
 use Rattle.vio_versions.proofs.accepted_list.Given as goal
 
 abbrev pub invariant-loop-i : goal.invariant-loop-i

@@ -3,8 +3,6 @@
 use borrow.Author.Tests.{eq-eqb, ne_eqb}
 use mathlib.Core.Path.{sym}
 use Rattle.basics.proofs.Choice.{pick_true, pick-false}
-use borrow.Author.Rules.{rules}
-use native.Mathlib.Omega.{arith}
 use Rattle.vio_versions.proofs.chosen.Goals as goal
 
 pub returns-then-major-wanted : goal.returns-then-major-wanted

@@ -4,7 +4,6 @@ use native.Mathlib.Omega.{arith}
 use borrow.Author.Tests.{lt-ltb, le-ltb}
 use mathlib.Core.Path.{sym, ◌∙◌}
 use Rattle.basics.proofs.Choice.{pick_true, pick-false}
-use borrow.Author.Rules.{rules}
 use Rattle.vio_versions.proofs.higher.Goals as goal
 
 pub returns-then-major-before : goal.returns-then-major-before

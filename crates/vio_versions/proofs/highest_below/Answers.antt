@@ -1,11 +1,9 @@
 -- `vio_versions::highest_below` meets its contract: the major is the highest of the versions passed.
 -- Assumes nothing.
 use native.Mathlib.Omega.{arith}
-use Prim.Native.Nat.{◌≤◌, ◌-◌}
-use mathlib.Core.Path.{◌≡◌}
+use Prim.Native.Nat.{◌-◌}
 use Rattle.vio_model.specs.Versions.{highest_in}
 use Rattle.vio_versions.proofs.Turns.{all_done, highest-start, highest-more}
-use borrow.Author.Rules.{rules}
 use Rattle.vio_versions.proofs.highest_below.Goals as goal
 
 pub loop-i-preserved : goal.loop-i-preserved

@@ -1,10 +1,8 @@
 -- `vio_versions::highest_below` meets its contract: the major is the highest of the versions passed.
 -- Assumes nothing.
-use native.Mathlib.Omega.{arith}
 use Prim.Native.Nat.{◌≤◌, ◌-◌}
 use mathlib.Core.Path.{◌≡◌}
 use Rattle.vio_model.specs.Versions.{highest_in}
-use Rattle.vio_versions.proofs.Turns.{all_done, highest-start, highest-more}
 use Rattle.vio_versions.proofs.highest_below.Given as goal
 
 abbrev pub invariant-loop-i : goal.invariant-loop-i

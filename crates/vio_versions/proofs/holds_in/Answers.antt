@@ -1,12 +1,11 @@
 -- `vio_versions::holds_in` meets its contract: no version passed has the major.
 -- Assumes nothing.
 use native.Mathlib.Omega.{arith}
-use Prim.Native.Nat.{◌≤◌, ◌-◌}
-use mathlib.Core.Path.{◌≡◌, sym}
+use Prim.Native.Nat.{◌-◌}
+use mathlib.Core.Path.{sym}
 use mathlib.Core.Bool.{false}
 use Rattle.vio_model.specs.Versions.{holds_in}
 use Rattle.vio_versions.proofs.Turns.{all_done, holds-none, holds-passed, holds-found}
-use borrow.Author.Rules.{rules}
 use Rattle.vio_versions.proofs.holds_in.Goals as goal
 
 pub loop-i-preserved : goal.loop-i-preserved

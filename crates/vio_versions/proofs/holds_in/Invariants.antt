@@ -1,11 +1,9 @@
 -- `vio_versions::holds_in` meets its contract: no version passed has the major.
 -- Assumes nothing.
-use native.Mathlib.Omega.{arith}
 use Prim.Native.Nat.{◌≤◌, ◌-◌}
-use mathlib.Core.Path.{◌≡◌, sym}
+use mathlib.Core.Path.{◌≡◌}
 use mathlib.Core.Bool.{false}
 use Rattle.vio_model.specs.Versions.{holds_in}
-use Rattle.vio_versions.proofs.Turns.{all_done, holds-none, holds-passed, holds-found}
 use Rattle.vio_versions.proofs.holds_in.Given as goal
 
 abbrev pub invariant-loop-i : goal.invariant-loop-i

@@ -1,11 +1,9 @@
 -- `vio_versions::minor_of` meets its contract: the minor is that of the versions passed.
 -- Assumes nothing.
 use native.Mathlib.Omega.{arith}
-use Prim.Native.Nat.{◌≤◌, ◌-◌}
-use mathlib.Core.Path.{◌≡◌}
+use Prim.Native.Nat.{◌-◌}
 use Rattle.vio_model.specs.Versions.{minor_in}
 use Rattle.vio_versions.proofs.Turns.{all_done, minor-start, minor-more}
-use borrow.Author.Rules.{rules}
 use Rattle.vio_versions.proofs.minor_of.Goals as goal
 
 pub loop-i-preserved : goal.loop-i-preserved

@@ -1,10 +1,8 @@
 -- `vio_versions::minor_of` meets its contract: the minor is that of the versions passed.
 -- Assumes nothing.
-use native.Mathlib.Omega.{arith}
 use Prim.Native.Nat.{◌≤◌, ◌-◌}
 use mathlib.Core.Path.{◌≡◌}
 use Rattle.vio_model.specs.Versions.{minor_in}
-use Rattle.vio_versions.proofs.Turns.{all_done, minor-start, minor-more}
 use Rattle.vio_versions.proofs.minor_of.Given as goal
 
 abbrev pub invariant-loop-i : goal.invariant-loop-i

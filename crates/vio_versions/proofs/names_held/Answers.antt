@@ -4,8 +4,6 @@ use mathlib.Core.Path.{sym}
 use borrow.Author.Tests.{le-ltb, lt-ltb}
 use Rattle.basics.specs.Choice.{◌and◌}
 use Rattle.basics.proofs.Choice.{and-false}
-use borrow.Author.Rules.{rules}
-use native.Mathlib.Omega.{arith}
 use Rattle.vio_versions.proofs.names_held.Goals as goal
 
 pub returns-then-id-ge-ID_LIMIT : goal.returns-then-id-ge-ID_LIMIT

@@ -4,7 +4,6 @@ use native.Mathlib.Omega.{arith}
 use borrow.Author.Tests.{eq-eqb, ne_eqb}
 use Rattle.basics.specs.Choice.{pick}
 use Rattle.vio_model.specs.Layout.{session_in, asked_stage, agreed_stage}
-use borrow.Author.Rules.{rules}
 use Rattle.vio_versions.proofs.session_in.Goals as goal
 
 pub returns-in-2 : goal.returns-in-2

@@ -6,8 +6,6 @@ use mathlib.Core.Path.{sym}
 use Rattle.basics.specs.Choice.{◌and◌}
 use Rattle.basics.proofs.Loops.{no, yes}
 use Rattle.vio_versions.proofs.Sessions.{asked-keeps, agreed-keeps, other-keeps}
-use borrow.Author.Rules.{rules}
-use native.Mathlib.Omega.{arith}
 use Rattle.vio_versions.proofs.session_keeps.Goals as goal
 
 pub returns-then-not-names_held : goal.returns-then-not-names_held

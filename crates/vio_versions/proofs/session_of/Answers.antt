@@ -1,8 +1,6 @@
 -- `vio_versions::session_of` meets its contract: by the four words.
 -- Assumes nothing.
 use Rattle.vio_model.specs.Layout.{session_of}
-use borrow.Author.Rules.{rules}
-use native.Mathlib.Omega.{arith}
 use Rattle.vio_versions.proofs.session_of.Goals as goal
 
 pub returns : goal.returns

@@ -8,7 +8,6 @@ use Rattle.vio_model.specs.Sound.{session_keeps}
 use Rattle.basics.proofs.Choice.{clash}
 use Rattle.vio_model.proofs.Words.{sound-last, sound-facts}
 use Rattle.basics.proofs.Loops.{refute, no, yes}
-use borrow.Author.Rules.{rules}
 use Rattle.vio_versions.proofs.sound.Goals as goal
 
 pub returns-then-end-ne-END_WORDS : goal.returns-then-end-ne-END_WORDS

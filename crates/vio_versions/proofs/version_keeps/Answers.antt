@@ -5,7 +5,6 @@ use mathlib.Core.Path.{ap, sym, ◌∙◌}
 use native.Mathlib.Omega.{arith}
 use Rattle.basics.proofs.Loops.{refute}
 use Rattle.vio_model.proofs.Versions.{version-rules, version-last}
-use borrow.Author.Rules.{rules}
 use Rattle.vio_versions.proofs.version_keeps.Goals as goal
 
 pub returns-then-major-lt1 : goal.returns-then-major-lt1

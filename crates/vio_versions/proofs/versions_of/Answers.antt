@@ -4,7 +4,6 @@ use mathlib.Core.Path.{◌≡◌}
 use Prim.Native.Nat.{◌+◌, ◌*◌, ◌-◌}
 use native.Mathlib.Omega.{arith}
 use Rattle.vio_model.specs.Layout.{version_words, first_version_word, versions_held, versions_of}
-use borrow.Author.Rules.{rules}
 use Rattle.vio_versions.proofs.versions_of.Goals as goal
 
 pub returns : goal.returns

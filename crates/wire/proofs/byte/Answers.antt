@@ -2,7 +2,6 @@
 -- Assumes nothing.
 use native.Mathlib.Omega.{arith}
 use Rattle.wire.proofs.Laws.{byte-at}
-use borrow.Author.Rules.{rules}
 use Rattle.wire.proofs.byte.Goals as goal
 
 pub overflow_cast-result : goal.overflow_cast-result

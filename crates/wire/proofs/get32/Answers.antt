@@ -4,7 +4,6 @@ use mathlib.Core.Path.{ap}
 use native.Mathlib.Nat.{add-zero}
 use native.Mathlib.Omega.{arith}
 use Rattle.wire.specs.BigEndian.{byte_at, number_at}
-use borrow.Author.Rules.{rules}
 use Rattle.wire.proofs.get32.Goals as goal
 
 pub returns : goal.returns

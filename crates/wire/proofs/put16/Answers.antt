@@ -5,7 +5,6 @@ use native.Mathlib.Numerals.{towards_suc}
 use native.Mathlib.Omega.{arith}
 use lib.ListN.{length-set}
 use Rattle.wire.specs.BigEndian.{bytes_of}
-use borrow.Author.Rules.{rules}
 use Rattle.wire.proofs.put16.Goals as goal
 
 pub bounds-out-at-2 : goal.bounds-out-at-2

@@ -5,8 +5,6 @@ use lib.ListN.{replicate}
 use lib.Seq.{sets}
 use Rattle.wire.specs.BigEndian.{bytes_of}
 use Rattle.wire.proofs.Laws.{length-bytes, sets-parts, sets-whole}
-use borrow.Author.Rules.{rules}
-use native.Mathlib.Omega.{arith}
 use Rattle.wire.proofs.put64.Goals as goal
 
 pub returns : goal.returns

@@ -1,12 +1,10 @@
 -- `wire::put_eight` meets its contract. The loop's invariant: the bytes passed are stored. The measure is the bytes left.
 -- Assumes nothing.
-use mathlib.Core.Path.{◌≡◌, refl, ap, ◌∙◌}
-use Prim.Native.Nat.{◌≤◌, ◌-◌}
+use mathlib.Core.Path.{refl, ap, ◌∙◌}
 use native.Mathlib.Omega.{arith}
-use lib.ListN.{length, take, length-set}
+use lib.ListN.{length-set}
 use lib.Seq.{sets, take_all}
 use Rattle.wire.proofs.Laws.{sets_more}
-use borrow.Author.Rules.{rules}
 use Rattle.wire.proofs.put_eight.Goals as goal
 
 pub loop-i-preserved : goal.loop-i-preserved

@@ -1,11 +1,9 @@
 -- `wire::put_eight` meets its contract. The loop's invariant: the bytes passed are stored. The measure is the bytes left.
 -- Assumes nothing.
-use mathlib.Core.Path.{◌≡◌, refl, ap, ◌∙◌}
+use mathlib.Core.Path.{◌≡◌}
 use Prim.Native.Nat.{◌≤◌, ◌-◌}
-use native.Mathlib.Omega.{arith}
-use lib.ListN.{length, take, length-set}
-use lib.Seq.{sets, take_all}
-use Rattle.wire.proofs.Laws.{sets_more}
+use lib.ListN.{length, take}
+use lib.Seq.{sets}
 use Rattle.wire.proofs.put_eight.Given as goal
 
 abbrev pub invariant-loop-i : goal.invariant-loop-i
