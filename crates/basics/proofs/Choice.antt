@@ -1,5 +1,6 @@
 -- Laws of choices, connectives and tables.
 -- Assumes nothing.
+use Rattle.std.specs.Prelude.{Option, Some, None}
 use mathlib.Core.Path.{◌≡◌, refl, sym, ap, ◌∙◌, subst}
 use mathlib.Core.Bool.{Bool, true, false}
 use mathlib.Core.List.{List, [], ◌∷◌}
@@ -11,8 +12,6 @@ use lib.ListN.{length, get_or, set, length-append, length-set, get_or-append}
 use lib.Seq.{get_or_at, ext_get_or, get_or-set_same, get_or-set_other}
 use lib.Dec.{eqb, ltb}
 use borrow.Author.Tests.{eqb-true, eqb-false, ne_eqb, ltb-true, ltb-false}
-use Rattle.basics.specs.declared.Found.{Found}
-use Rattle.basics.specs.declared.Found.TheVariants.{At, Nowhere}
 use Rattle.basics.specs.Choice.{pick, ◌and◌, ◌or◌, every, or_else, first_below, is_found, tabulate, cleared_from, joined}
 
 -- Tests.
@@ -197,11 +196,11 @@ pub record First (n : ℕ) (f : ℕ → Bool) (i : ℕ) : Type 0 where
   pub before : (j : ℕ) → j < i → f j ≡ false
 
 -- what holds where one is the first, and where none passes, holds of what is found
-pub on-first : (P : Found → Type 0) (n : ℕ) (f : ℕ → Bool) → ((i : ℕ) → First n f i → P (At i)) → (((j : ℕ) → j < n → f j ≡ false) → P Nowhere) → P (first_below n f)
+pub on-first : (P : Option ℕ → Type 0) (n : ℕ) (f : ℕ → Bool) → ((i : ℕ) → First n f i → P (Some i)) → (((j : ℕ) → j < n → f j ≡ false) → P None) → P (first_below n f)
 unfolding first_below
 on-first P zero f a b = b (λ j h. absurd (not-suc-le-zero h))
 on-first P (suc n) f a b =
-    on-first (λ x. P (or_else x (pick (f n) (At n) Nowhere))) n f
+    on-first (λ x. P (or_else x (pick (f n) (Some n) None))) n f
     (λ i r. unfold or_else in (a i (record { below = omega (arith, r.below); passes = r.passes; before = r.before })))
     (λ none. go (f n) refl none)
   where
@@ -209,15 +208,15 @@ on-first P (suc n) f a b =
     all-false e none j h =
         ⊎_elim (λ (q : j ≡ n). ap f q ∙ e) (λ (l : j < n). none j l) (eq-or-lt_of_le (le_of_suc-le-suc h))
 
-    go : (x : Bool) → f n ≡ x → ((j : ℕ) → j < n → f j ≡ false) → P (or_else Nowhere (pick x (At n) Nowhere))
+    go : (x : Bool) → f n ≡ x → ((j : ℕ) → j < n → f j ≡ false) → P (or_else None (pick x (Some n) None))
     go true e none = unfold or_else pick in (a n (record { below = omega arith; passes = e; before = none }))
     go false e none = unfold or_else pick in (b (all-false e none))
 
 -- a first one, and none, by what was seen of the numbers before it
-pub first-is : (n : ℕ) (f : ℕ → Bool) (i : ℕ) → First n f i → first_below n f ≡ At i
+pub first-is : (n : ℕ) (f : ℕ → Bool) (i : ℕ) → First n f i → first_below n f ≡ Some i
 first-is n f i r =
-    on-first (λ x. x ≡ At i) n f
-    (λ k q. ap At (same k q (ltb k i) refl (ltb i k) refl))
+    on-first (λ x. x ≡ Some i) n f
+    (λ k q. ap Some (same k q (ltb k i) refl (ltb i k) refl))
     (λ none. absurd (clash (f i) (none i r.below) r.passes))
   where
     same : (k : ℕ) → First n f k → (x : Bool) → ltb k i ≡ x → (y : Bool) → ltb i k ≡ y → k ≡ i
@@ -225,9 +224,9 @@ first-is n f i r =
     same k q false x true e = absurd (clash (f i) (q.before i (ltb-true i k e)) r.passes)
     same k q false x false e = omega (arith, ltb-false k i x, ltb-false i k e)
 
-pub first-nowhere : (n : ℕ) (f : ℕ → Bool) → ((j : ℕ) → j < n → f j ≡ false) → first_below n f ≡ Nowhere
+pub first-nowhere : (n : ℕ) (f : ℕ → Bool) → ((j : ℕ) → j < n → f j ≡ false) → first_below n f ≡ None
 first-nowhere n f none =
-    on-first (λ x. x ≡ Nowhere) n f (λ i r. absurd (clash (f i) (none i r.below) r.passes)) (λ _. refl)
+    on-first (λ x. x ≡ None) n f (λ i r. absurd (clash (f i) (none i r.below) r.passes)) (λ _. refl)
 
 -- tests that agree find the same
 pub first-same : (n : ℕ) (f g : ℕ → Bool) → ((i : ℕ) → i < n → g i ≡ f i) → first_below n g ≡ first_below n f
@@ -236,13 +235,13 @@ first-same zero f g h = refl
 first-same (suc n) f g h = rw (first-same n f g (λ i l. h i (omega arith)), h n (omega arith))
 
 -- what was found
-pub first-facts : (n : ℕ) (f : ℕ → Bool) (i : ℕ) → first_below n f ≡ At i → First n f i
+pub first-facts : (n : ℕ) (f : ℕ → Bool) (i : ℕ) → first_below n f ≡ Some i → First n f i
 unfolding is_found
 first-facts n f i =
-    on-first (λ x. x ≡ At i → First n f i) n f
+    on-first (λ x. x ≡ Some i → First n f i) n f
     (λ k r e. let q : k ≡ i = ap place_in e in rw q at r)
     (λ _ e. absurd (clash false refl (ap is_found e)))
   where
-    place_in : Found → ℕ
-    place_in (At k) = k
-    place_in Nowhere = 0
+    place_in : Option ℕ → ℕ
+    place_in (Some k) = k
+    place_in None = 0

@@ -1,5 +1,6 @@
 -- A branch on a test, and loops that make a test at each number below a bound: that all pass, and for the first that passes.
 -- Assumes nothing.
+use Rattle.std.specs.Prelude.{Some, None}
 use mathlib.Core.Path.{◌≡◌, refl, sym, ap, ◌∙◌, subst}
 use mathlib.Core.Logic.{⊎_elim}
 use mathlib.Core.Bool.{Bool, true, false, not}
@@ -7,7 +8,6 @@ use Prim.Native.Nat.{ℕ, ◌+◌, ◌<◌, ◌≤◌}
 use native.Mathlib.Nat.{le_antisymm, eq-or-lt_of_le, le_of_suc-le-suc, not-suc-le-zero, lt_of_lt_of_le}
 use native.Mathlib.Numerals.{add-one}
 use borrow.Author.Tests.{not-true, not-false}
-use Rattle.basics.specs.declared.Found.TheVariants.{At, Nowhere}
 use Rattle.basics.specs.Choice.{◌and◌, every, first_below}
 use Rattle.basics.proofs.Choice.{clash, every-at, first-is, first-nowhere}
 
@@ -54,8 +54,8 @@ none_more f i e t j h =
     (eq-or-lt_of_le (le_of_suc-le-suc (subst (λ (k : ℕ). j < k) (add-one i) h)))
 
 -- a turn that passed; the last turn done
-pub found_here : (f : ℕ → Bool) (n i : ℕ) → NoneBelow f i → i < n → f i ≡ true → At i ≡ first_below n f
+pub found_here : (f : ℕ → Bool) (n i : ℕ) → NoneBelow f i → i < n → f i ≡ true → Some i ≡ first_below n f
 found_here f n i e h t = sym (first-is n f i (record { below = h; passes = t; before = e }))
 
-pub found_nowhere : (f : ℕ → Bool) (n i : ℕ) → NoneBelow f i → n ≤ i → Nowhere ≡ first_below n f
+pub found_nowhere : (f : ℕ → Bool) (n i : ℕ) → NoneBelow f i → n ≤ i → None ≡ first_below n f
 found_nowhere f n i e l = sym (first-nowhere n f (λ j h. e j (lt_of_lt_of_le h l)))

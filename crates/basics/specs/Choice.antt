@@ -1,8 +1,6 @@
 -- Choices by a test, connectives, and tables of a function's values.
 -- Assumes nothing.
-use Rattle.std.specs.Prelude.{ℕ, zero, suc, ◌+◌, ◌/◌, Bool, true, false, List, [], ◌∷◌, ◌++◌, set, eqb}
-use Rattle.basics.specs.declared.Found.{Found}
-use Rattle.basics.specs.declared.Found.TheVariants.{At, Nowhere}
+use Rattle.std.specs.Prelude.{ℕ, zero, suc, ◌+◌, ◌/◌, Bool, true, false, List, [], ◌∷◌, ◌++◌, set, eqb, Option, Some, None}
 
 infixr 35 ◌and◌
 infixr 30 ◌or◌
@@ -25,23 +23,23 @@ every zero f = true
 every (suc n) f = every n f and f n
 
 -- the first of two finds
-unfoldable pub or_else : Found → Found → Found
-or_else (At i) g = At i
-or_else Nowhere g = g
+unfoldable pub or_else : Option ℕ → Option ℕ → Option ℕ
+or_else (Some i) g = Some i
+or_else None g = g
 
 -- the first number below n at which the test f passes, if there is one
-unfoldable pub first_below : ℕ → (ℕ → Bool) → Found
-first_below zero f = Nowhere
-first_below (suc n) f = or_else (first_below n f) (pick (f n) (At n) Nowhere)
+unfoldable pub first_below : ℕ → (ℕ → Bool) → Option ℕ
+first_below zero f = None
+first_below (suc n) f = or_else (first_below n f) (pick (f n) (Some n) None)
 
 -- a place was found, and whether it is this one
-unfoldable pub is_found : Found → Bool
-is_found (At i) = true
-is_found Nowhere = false
+unfoldable pub is_found : Option ℕ → Bool
+is_found (Some i) = true
+is_found None = false
 
-unfoldable pub is_at : ℕ → Found → Bool
-is_at k (At i) = eqb i k
-is_at k Nowhere = false
+unfoldable pub is_at : ℕ → Option ℕ → Bool
+is_at k (Some i) = eqb i k
+is_at k None = false
 
 -- f 0, f 1, and so on, n in all
 unfoldable pub tabulate : {A : Type 0} → (ℕ → A) → ℕ → List A

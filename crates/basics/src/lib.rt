@@ -5,13 +5,6 @@
 
 ghost use Rattle.std.specs.Prelude.{◌≡◌, min};
 
-// What a search gives: the first place that passes, or none.
-#[derive(Clone, Copy)]
-pub enum Found {
-    At { place: usize },
-    Nowhere,
-}
-
 // The lower of two numbers.
 pub fn lower(a: u64, b: u64) -> u64
     ensures { result ≡ min a b }

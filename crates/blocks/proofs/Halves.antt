@@ -1,5 +1,6 @@
 -- The search by halves, turn by turn: what it has told so far, and what is left.
 -- Assumes nothing.
+use Rattle.std.specs.Prelude.{Option, None}
 use Prim.Native.Nat.{ℕ, ◌+◌, ◌≤◌, ◌<◌}
 use mathlib.Core.Path.{◌≡◌, refl, sym, ap, ◌∙◌}
 use mathlib.Core.List.{List, [], ◌++◌, append-nil, append_assoc}
@@ -7,8 +8,6 @@ use native.Mathlib.Numerals.{add-one}
 use native.Mathlib.Omega.{arith}
 use lib.ListN.{length, set, take, length-append, length-set}
 use lib.Seq.{take-suc-set, length-take-le}
-use Rattle.basics.specs.declared.Found.{Found}
-use Rattle.basics.specs.declared.Found.TheVariants.{Nowhere}
 use Rattle.model.specs.Layout.{block_at, blocks_of, first_block_word, most_blocks, most_looked}
 use Rattle.model.specs.Search.{Search, below_middle, above_middle, middle_of, found_as, looked_first, found_there, turn_at, search_left, search_in, search_of, Tells}
 use Rattle.model.proofs.Search.{halvings-more, none_left_lem, turn-here, turn-above, turn_below, search-holds}
@@ -31,7 +30,7 @@ module _ (s : List ℕ) (addr size : ℕ) where
   going-first = refl
 
   -- what was told is the whole search, where it ends
-  tells-end : {x : Found} (looked : List ℕ) (count : ℕ) → count ≤ length looked → search_of s addr size ≡ before (take count looked) (found_as x) → Tells (search_of s addr size) (record { found = x; looked = looked; count = count })
+  tells-end : {x : Option ℕ} (looked : List ℕ) (count : ℕ) → count ≤ length looked → search_of s addr size ≡ before (take count looked) (found_as x) → Tells (search_of s addr size) (record { found = x; looked = looked; count = count })
   unfolding before
   tells-end looked count fits e =
       let told = ap (λ (r : Search). r.looked) e ∙ append-nil (take count looked) in
@@ -71,12 +70,12 @@ module _ (s : List ℕ) (addr size : ℕ) where
       unfolding Going
       going-below l = turned ∙ ap (before (take count looked)) (turn_below _ _ _ _ _ _ l) ∙ told_more _
 
-      pub tells-here : {x : Found} → (block_at s (middle_of low m)).base ≡ addr → x ≡ found_there (block_at s (middle_of low m)) (middle_of low m) size → Tells (search_of s addr size) (record { found = x; looked = set looked count (middle_of low m); count = count + 1 })
+      pub tells-here : {x : Option ℕ} → (block_at s (middle_of low m)).base ≡ addr → x ≡ found_there (block_at s (middle_of low m)) (middle_of low m) size → Tells (search_of s addr size) (record { found = x; looked = set looked count (middle_of low m); count = count + 1 })
       tells-here e q =
           tells-end (set looked count (middle_of low m)) (count + 1) (rw length-set (omega arith))
           (rw q (turned ∙ ap (before (take count looked)) (turn-here _ _ _ _ _ _ e) ∙ told_more _))
 
-  pub tells-nowhere : (looked : List ℕ) (count low m : ℕ) → m ≡ 0 → count ≤ length looked → Going (take count looked) low m → Tells (search_of s addr size) (record { found = Nowhere; looked = looked; count = count })
+  pub tells-nowhere : (looked : List ℕ) (count low m : ℕ) → m ≡ 0 → count ≤ length looked → Going (take count looked) low m → Tells (search_of s addr size) (record { found = None; looked = looked; count = count })
   unfolding Going
   tells-nowhere looked count low m none fits g =
       tells-end looked count fits (g ∙ ap (before (take count looked)) (none_left_lem (λ i. block_at s i) addr size low m none))

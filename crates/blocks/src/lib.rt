@@ -1,15 +1,13 @@
 // "Blocks: 0 to 16, given at setup": the rules of a block list, and the block that a pair names.
 #![tactic(auto)]
 
-ghost use Rattle.std.specs.Prelude.{◌≡◌, ◌+◌, ◌*◌, ◌≤◌, length, eqb};
+ghost use Rattle.std.specs.Prelude.{◌≡◌, ◌+◌, ◌*◌, ◌≤◌, length, eqb, Some, None};
 ghost use Rattle.basics.specs.Choice.{every, pick};
-ghost use Rattle.basics.specs.declared.Found.TheVariants.{At, Nowhere};
 ghost use Rattle.model.specs.Layout.{most_blocks, block_words, block_in, blocks_of, first_block_word};
 ghost use Rattle.model.specs.Blocks.{most_pages, page_size, block_keeps, end_before, blocks_keep, accepted_blocks, named_block};
 ghost use Rattle.model.specs.Search.{BlocksInOrder, Tells, search_of};
 ghost use Rattle.blocks.specs.Permanent.{permanent_keeps};
 
-use basics::Found;
 use model::{
     BLOCK_COUNT_WORD, BLOCK_WORDS, CONFIGURED_PLACE, FIRST_BLOCK_WORD, FIRST_PLACE, MOST_BLOCKS,
     MOST_LOOKED, PAGES_PLACE, PERMANENT_PLACE, Searched, State,
@@ -127,14 +125,14 @@ pub fn state_blocks_keep(state: &State) -> bool
 
 // "A pair names a block if addr is its base and size is all of it": of the block at `place`, whose base is the pair's address. Its size
 // does not wrap: its pages are not too many.
-fn found_at(pages: u64, size: u64, place: usize) -> Found
+fn found_at(pages: u64, size: u64, place: usize) -> Option<usize>
     requires { pages ≤ most_pages }
-    ensures { result ≡ pick (eqb (pages * page_size) size) (At place) Nowhere }
+    ensures { result ≡ pick (eqb (pages * page_size) size) (Some place) None }
 {
     if pages * PAGE_SIZE == size {
-        return Found::At { place: place };
+        return Some(place);
     }
-    Found::Nowhere
+    None
 }
 
 // "look for each record by halves, and return which blocks were looked at, in order, each the (lower) middle of those left": `left` blocks
@@ -169,14 +167,14 @@ pub fn look_for(state: &State, addr: u64, size: u64) -> Searched
         }
     }
     Searched {
-        found: Found::Nowhere,
+        found: None,
         looked: looked,
         count: count,
     }
 }
 
 // The block that the pair names, if there is one.
-pub fn named_block(state: &State, addr: u64, size: u64) -> Found
+pub fn named_block(state: &State, addr: u64, size: u64) -> Option<usize>
     requires { BlocksInOrder state.now }
     ensures { result ≡ named_block state.now addr size }
 {

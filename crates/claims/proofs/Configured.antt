@@ -1,5 +1,6 @@
 -- CONFIGURE record by record: the result of each, and the blocks that are configured by then.
 -- Assumes nothing.
+use Rattle.std.specs.Prelude.{Option, Some, None}
 use Prim.Native.Nat.{ℕ, zero, suc, ◌≤◌, ◌<◌}
 use native.Mathlib.Omega.{arith}
 use native.Mathlib.Nat.{eq-or-lt_of_le, le_of_suc-le-suc, not-suc-le-zero}
@@ -12,8 +13,6 @@ use lib.Seq.{get_or_at}
 use lib.Dec.{eqb}
 use borrow.Author.Tests.{eqb-true, eqb-false, ne_eqb, not-true}
 use Rattle.basics.specs.Choice.{is_found}
-use Rattle.basics.specs.declared.Found.{Found}
-use Rattle.basics.specs.declared.Found.TheVariants.{At, Nowhere}
 use Rattle.model.specs.Layout.{block_at, blocks_of, with_configured, most_blocks, state_words}
 use Rattle.model.specs.Blocks.{named_block}
 use Rattle.model.specs.Memory.{DR-MEM-RES-OK, DR-MEM-RES-FAILURE, DR-MEM-RES-NOWORK, addr_in, size_in, Progress, one_failed, one_configured, one_unchanged, configure_at, configure_one, configured_by}
@@ -26,35 +25,35 @@ use Rattle.effects.proofs.Effects.{shape}
 use Rattle.effects.proofs.MemoryEffects.{Configures, configured-all}
 
 -- the block that a pair names is configured
-unfoldable is_configured : List ℕ → Found → Bool
-is_configured s (At i) = not (eqb (block_at s i).configured 0)
-is_configured s Nowhere = false
+unfoldable is_configured : List ℕ → Option ℕ → Bool
+is_configured s (Some i) = not (eqb (block_at s i).configured 0)
+is_configured s None = false
 
-not-nowhere : (s : List ℕ) → is_configured s Nowhere ≡ true → ⊥
+not-nowhere : (s : List ℕ) → is_configured s None ≡ true → ⊥
 unfolding is_configured
 not-nowhere s e = clash false refl e
 
-not_at : (s : List ℕ) (i : ℕ) → (block_at s i).configured ≡ 0 → is_configured s (At i) ≡ true → ⊥
+not_at : (s : List ℕ) (i : ℕ) → (block_at s i).configured ≡ 0 → is_configured s (Some i) ≡ true → ⊥
 unfolding is_configured
 not_at s i z e = clash false refl (rw z at e)
 
 -- What holds of each thing that a record does holds of the record.
 record OnRecord (P : Progress → Type 0) (p : Progress) (addr size : ℕ) : Type 0 where
   after_failure : p.failed ≡ true → P (one_failed p)
-  unknown : p.failed ≡ false → named_block p.state addr size ≡ Nowhere → P (one_failed p)
-  raised : (i : ℕ) → p.failed ≡ false → named_block p.state addr size ≡ At i → (block_at p.state i).configured ≡ 0 → P (one_configured p i)
-  known : (i : ℕ) → p.failed ≡ false → named_block p.state addr size ≡ At i → ((block_at p.state i).configured ≡ 0 → ⊥) → P (one_unchanged p)
+  unknown : p.failed ≡ false → named_block p.state addr size ≡ None → P (one_failed p)
+  raised : (i : ℕ) → p.failed ≡ false → named_block p.state addr size ≡ Some i → (block_at p.state i).configured ≡ 0 → P (one_configured p i)
+  known : (i : ℕ) → p.failed ≡ false → named_block p.state addr size ≡ Some i → ((block_at p.state i).configured ≡ 0 → ⊥) → P (one_unchanged p)
 
 on-record : (P : Progress → Type 0) (p : Progress) (addr size : ℕ) → OnRecord P p addr size → P (configure_one p addr size)
 unfolding configure_one
 on-record P p addr size o =
     on-pick P _ _ _ o.after_failure (λ f. go f (named_block p.state addr size) refl)
   where
-    go : p.failed ≡ false → (x : Found) → named_block p.state addr size ≡ x → P (configure_at p x)
-    go f (At i) e =
+    go : p.failed ≡ false → (x : Option ℕ) → named_block p.state addr size ≡ x → P (configure_at p x)
+    go f (Some i) e =
         unfold configure_at in
         (on-pick P _ _ _ (λ z. o.raised i f e (eqb-true _ 0 z)) (λ z. o.known i f e (eqb-false _ 0 z)))
-    go f Nowhere e = unfold configure_at in (o.unknown f e)
+    go f None e = unfold configure_at in (o.unknown f e)
 
 -- a record has one result, after those before it
 record OneMore (l l' : List ℕ) : Type 0 where
@@ -99,10 +98,10 @@ module _ (s b : List ℕ) where
   last-result n p r e = get_or_at p.results r [] 0 n e
 
 -- a configured block still is, where flags rise or stay
-configured-kept : (s t : List ℕ) (x : Found) → ((k : ℕ) → x ≡ At k → ((block_at s k).configured ≡ 0 → ⊥) → (block_at t k).configured ≡ 0 → ⊥) → is_configured s x ≡ true → is_configured t x ≡ true
+configured-kept : (s t : List ℕ) (x : Option ℕ) → ((k : ℕ) → x ≡ Some k → ((block_at s k).configured ≡ 0 → ⊥) → (block_at t k).configured ≡ 0 → ⊥) → is_configured s x ≡ true → is_configured t x ≡ true
 unfolding is_configured
-configured-kept s t (At k) f e = ap not (ne_eqb _ 0 (f k refl (eqb-false _ 0 (not-true _ e))))
-configured-kept s t Nowhere f e = e
+configured-kept s t (Some k) f e = ap not (ne_eqb _ 0 (f k refl (eqb-false _ 0 (not-true _ e))))
+configured-kept s t None f e = e
 
 module _ (s : List ℕ) (g : Given s) (b : List ℕ) where
   -- the blocks of the records so far are configured
@@ -114,7 +113,7 @@ module _ (s : List ℕ) (g : Given s) (b : List ℕ) where
   through P n f here k h = ⊎_elim (λ (q : k ≡ n). rw q here) (λ (l : k < n). f k l) (eq-or-lt_of_le (le_of_suc-le-suc h))
 
   module _ (n : ℕ) (p : Progress) (c : Configures s p) (old : AllConfigured n p) where
-    raised_all : (i : ℕ) → p.failed ≡ false → named_block p.state (addr_in b n) (size_in b n) ≡ At i → AllConfigured (suc n) (one_configured p i)
+    raised_all : (i : ℕ) → p.failed ≡ false → named_block p.state (addr_in b n) (size_in b n) ≡ Some i → AllConfigured (suc n) (one_configured p i)
     unfolding AllConfigured one_configured
     raised_all i f e _ =
         let w = shape-moves c.moves (shape s g) in
@@ -130,7 +129,7 @@ module _ (s : List ℕ) (g : Given s) (b : List ℕ) where
         rises size few l x d true y z = omega (arith, rw (eqb-true x i y) at z, flag-now p.state i 1 size few l)
         rises size few l x d false y z = d (sym (flag-else p.state i 1 size few l x (eqb-false x i y)) ∙ z)
 
-    known-all : (i : ℕ) → p.failed ≡ false → named_block p.state (addr_in b n) (size_in b n) ≡ At i → ((block_at p.state i).configured ≡ 0 → ⊥) → AllConfigured (suc n) (one_unchanged p)
+    known-all : (i : ℕ) → p.failed ≡ false → named_block p.state (addr_in b n) (size_in b n) ≡ Some i → ((block_at p.state i).configured ≡ 0 → ⊥) → AllConfigured (suc n) (one_unchanged p)
     unfolding AllConfigured one_unchanged
     known-all i f e d _ =
         through (λ k. is_configured p.state (named_block p.state (addr_in b k) (size_in b k)) ≡ true) n
@@ -169,11 +168,11 @@ module _ (s : List ℕ) (g : Given s) (b : List ℕ) where
         known = λ i y e z. unfold one_unchanged in refl;
       })
     where
-      none_found : is_found Nowhere ≡ false
+      none_found : is_found None ≡ false
       none_found = unfold is_found in refl
 
-      not_found : is_found Nowhere ≡ true → ⊥
-      not_found e = clash (is_found Nowhere) none_found e
+      not_found : is_found None ≡ true → ⊥
+      not_found e = clash (is_found None) none_found e
 
   -- a record whose pair stands earlier, where each pair before it names a block
   pub repeat-result : (n k i : ℕ) → i < n → k < i → addr_in b k ≡ addr_in b i → size_in b k ≡ size_in b i → ((q : ℕ) → q < i → is_found (named_block s (addr_in b q) (size_in b q)) ≡ true) → get_or (configured_by s b n).results i 0 ≡ DR-MEM-RES-NOWORK

@@ -1,5 +1,6 @@
 -- Data reaches a service exactly when the view shows its handle registered on the channel, and reaches that service.
 -- Assumes nothing.
+use Rattle.std.specs.Prelude.{Option, Some, None}
 use Prim.Native.Nat.{ℕ, ◌+◌, ◌*◌, ◌/◌, ◌%◌, ◌≤◌, ◌<◌}
 use native.Mathlib.Omega.{arith}
 use mathlib.Core.Path.{◌≡◌, refl, sym, ap, ◌∙◌}
@@ -12,8 +13,6 @@ use borrow.Author.Tests.{eq-eqb, ne_eqb, le-leb, ltb-true, ltb-false, eqb-true, 
 use Rattle.wire.specs.BigEndian.{bytes_of, written}
 use Rattle.basics.specs.Choice.{pick, ◌and◌, ◌or◌, first_below, is_found, is_at}
 use Rattle.model.specs.declared.Event.{Event}
-use Rattle.basics.specs.declared.Found.{Found}
-use Rattle.basics.specs.declared.Found.TheVariants.{At, Nowhere}
 use Rattle.model.specs.declared.Message.TheVariants.{Data}
 use Rattle.model.specs.Journal.{served_by, answered_event, code_none, data_refused_event, delivered_event, peer_data_event, kind_peer_data}
 use Rattle.model.specs.Messages.{Effect, DS-INV-HDL, closing, decoded, decoded_by_type, ds_data, ds_message, effect, most_payload, nack, payload_fits, payload_length, registered_as, registered_for, route, well_formed, whole_message}
@@ -49,8 +48,8 @@ data-decoded m handle d =
     )
 
 -- The service that an effect tells of, by its reply and its event.
-unfoldable pub reached_by : ℕ → Effect → Found
-reached_by handle e = pick (same_bytes e.reply (nack handle DS-INV-HDL)) Nowhere (served_by e.event)
+unfoldable pub reached_by : ℕ → Effect → Option ℕ
+reached_by handle e = pick (same_bytes e.reply (nack handle DS-INV-HDL)) None (served_by e.event)
 
 -- the reply of an accepted call
 pub reply-is : (s j out : List ℕ) (pages : ℕ) (e : Effect) → reply_of (accepted s j out pages e) ≡ e.reply
@@ -128,11 +127,11 @@ empty-no-nack handle = refl
 
 -- Every answer of the memory service tells of service 0, and its reply is no NACK.
 record OfMemory (e : Effect) : Type 0 where
-  serves : served_by e.event ≡ At memory_service
+  serves : served_by e.event ≡ Some memory_service
   no_nack : (handle : ℕ) → same_bytes e.reply (nack handle DS-INV-HDL) ≡ false
 
 -- its events
-served-answered : (c v code request : ℕ) → served_by (answered_event c v code request) ≡ At v
+served-answered : (c v code request : ℕ) → served_by (answered_event c v code request) ≡ Some v
 unfolding served_by pick ◌or◌
 served-answered c v code request = refl
 
@@ -189,72 +188,72 @@ memory-of s c h b =
 
 -- what each route tells of
 module _ (s : List ℕ) (c handle : ℕ) where
-  memory-tells : (payload : List ℕ) → reached_by handle (answered_memory s c handle payload) ≡ At memory_service
+  memory-tells : (payload : List ℕ) → reached_by handle (answered_memory s c handle payload) ≡ Some memory_service
   unfolding reached_by pick
   memory-tells payload = let o = memory-of s c handle payload in rw (o.no_nack handle) o.serves
 
   -- every answer of the virtual devices' service tells of service 1, and its reply is no NACK
-  devices-tell : (payload : List ℕ) → reached_by handle (answered_device s c handle payload) ≡ At device_service
+  devices-tell : (payload : List ℕ) → reached_by handle (answered_device s c handle payload) ≡ Some device_service
   unfolding answered_device
   devices-tell payload =
-      on-pick (λ (e : Effect). reached_by handle e ≡ At device_service) _ _ _
+      on-pick (λ (e : Effect). reached_by handle e ≡ Some device_service) _ _ _
       (λ _. named (named_device s (device_id payload) (device_name payload)))
       (λ _. unfold answering_device in (told _ s _ _ _ (served-answered c device_service _ _)))
     where
-      told : (e : Event) (t : List ℕ) (request result status : ℕ) → served_by e ≡ At device_service → reached_by handle (effect e t (device_reply handle request result status)) ≡ At device_service
+      told : (e : Event) (t : List ℕ) (request result status : ℕ) → served_by e ≡ Some device_service → reached_by handle (effect e t (device_reply handle request result status)) ≡ Some device_service
       told e t request result status q = unfold reached_by pick in (rw (device-no-nack handle handle request result status) q)
 
-      named : (x : Found) → reached_by handle (device_for s c handle (device_number payload) (operation_of (device_type payload)) x) ≡ At device_service
-      named (At i) = unfold device_for asking_device in (told _ _ _ _ _ (unfold served_by pick ◌and◌ ◌or◌ in refl))
-      named Nowhere = unfold device_for answering_device in (told _ s _ _ _ (served-answered c device_service _ _))
+      named : (x : Option ℕ) → reached_by handle (device_for s c handle (device_number payload) (operation_of (device_type payload)) x) ≡ Some device_service
+      named (Some i) = unfold device_for asking_device in (told _ _ _ _ _ (unfold served_by pick ◌and◌ ◌or◌ in refl))
+      named None = unfold device_for answering_device in (told _ s _ _ _ (served-answered c device_service _ _))
 
   -- every answer of a service of orders tells of it
-  orders-tell : (v : ℕ) (payload : List ℕ) → reached_by handle (answered_order s c handle v payload) ≡ At v
+  orders-tell : (v : ℕ) (payload : List ℕ) → reached_by handle (answered_order s c handle v payload) ≡ Some v
   unfolding answered_order ordering_for
   orders-tell v payload =
-      on-pick (λ (e : Effect). reached_by handle e ≡ At v) _ _ _ (λ _. not_left _ _ _)
-      (λ _. on-pick (λ (e : Effect). reached_by handle e ≡ At v) _ _ _ (λ _. not_left _ _ _)
-      (λ _. on-pick (λ (e : Effect). reached_by handle e ≡ At v) _ _ _ (λ _. not_left _ _ _)
-      (λ _. on-pick (λ (e : Effect). reached_by handle e ≡ At v) _ _ _ (λ _. left _ _) (λ _. left _ _))))
+      on-pick (λ (e : Effect). reached_by handle e ≡ Some v) _ _ _ (λ _. not_left _ _ _)
+      (λ _. on-pick (λ (e : Effect). reached_by handle e ≡ Some v) _ _ _ (λ _. not_left _ _ _)
+      (λ _. on-pick (λ (e : Effect). reached_by handle e ≡ Some v) _ _ _ (λ _. not_left _ _ _)
+      (λ _. on-pick (λ (e : Effect). reached_by handle e ≡ Some v) _ _ _ (λ _. left _ _) (λ _. left _ _))))
     where
-      not_left : (request result : ℕ) (reason : List ℕ) → reached_by handle (not_ordered s c handle v request result reason) ≡ At v
+      not_left : (request result : ℕ) (reason : List ℕ) → reached_by handle (not_ordered s c handle v request result reason) ≡ Some v
       not_left request result reason =
           unfold not_ordered reached_by pick in (rw (order-no-nack handle handle request result reason) (unfold served_by pick ◌or◌ in refl))
 
-      left : (order delay : ℕ) → reached_by handle (ordering s c handle v (order_number payload) order delay) ≡ At v
+      left : (order delay : ℕ) → reached_by handle (ordering s c handle v (order_number payload) order delay) ≡ Some v
       left order delay =
           unfold ordering reached_by pick in (rw (order-no-nack handle handle (order_number payload) _ []) (unfold served_by pick ◌or◌ in refl))
 
-  host-tells : (v : ℕ) → reached_by handle (effect (delivered_event c v) s []) ≡ At v
+  host-tells : (v : ℕ) → reached_by handle (effect (delivered_event c v) s []) ≡ Some v
   unfolding reached_by served_by pick ◌or◌
   host-tells v = rw (empty-no-nack handle)
 
-  none-tells : (e : Event) (reply : List ℕ) → served_by e ≡ Nowhere → reached_by handle (effect e s reply) ≡ Nowhere
+  none-tells : (e : Event) (reply : List ℕ) → served_by e ≡ None → reached_by handle (effect e s reply) ≡ None
   unfolding reached_by
-  none-tells e reply q = on-pick (λ x. x ≡ Nowhere) _ _ _ (λ _. refl) (λ _. q)
+  none-tells e reply q = on-pick (λ x. x ≡ None) _ _ _ (λ _. refl) (λ _. q)
 
   -- data that no service of ours is registered for
-  peer-tells : (x : Found) → reached_by handle (peer_data s c handle x) ≡ Nowhere
+  peer-tells : (x : Option ℕ) → reached_by handle (peer_data s c handle x) ≡ None
   unfolding peer_data
-  peer-tells (At p) = none-tells (peer_data_event c) _ (unfold served_by pick ◌and◌ ◌or◌ in refl)
-  peer-tells Nowhere = none-tells (data_refused_event c handle) _ (unfold served_by pick ◌and◌ ◌or◌ in refl)
+  peer-tells (Some p) = none-tells (peer_data_event c) _ (unfold served_by pick ◌and◌ ◌or◌ in refl)
+  peer-tells None = none-tells (data_refused_event c handle) _ (unfold served_by pick ◌and◌ ◌or◌ in refl)
 
   -- data, for the service that is found
-  data-tells : (payload : List ℕ) (x : Found) → reached_by handle (data_for s c handle payload x) ≡ x
+  data-tells : (payload : List ℕ) (x : Option ℕ) → reached_by handle (data_for s c handle payload x) ≡ x
   unfolding data_for
-  data-tells payload Nowhere = peer-tells (peer_for s c handle)
-  data-tells payload (At v) = go (eqb v memory_service) refl (eqb v device_service) refl (eqb v shutdown_service or eqb v panic_service) refl
+  data-tells payload None = peer-tells (peer_for s c handle)
+  data-tells payload (Some v) = go (eqb v memory_service) refl (eqb v device_service) refl (eqb v shutdown_service or eqb v panic_service) refl
     where
-      go : (b : Bool) → eqb v memory_service ≡ b → (d : Bool) → eqb v device_service ≡ d → (o : Bool) → (eqb v shutdown_service or eqb v panic_service) ≡ o → reached_by handle (routed s c handle payload v (route v)) ≡ At v
-      go true z d y o x = unfold route pick routed in rw z (memory-tells payload ∙ ap At (sym (eqb-true v memory_service z)))
-      go false z true y o x = unfold route pick routed in rw (z, y) (devices-tell payload ∙ ap At (sym (eqb-true v device_service y)))
+      go : (b : Bool) → eqb v memory_service ≡ b → (d : Bool) → eqb v device_service ≡ d → (o : Bool) → (eqb v shutdown_service or eqb v panic_service) ≡ o → reached_by handle (routed s c handle payload v (route v)) ≡ Some v
+      go true z d y o x = unfold route pick routed in rw z (memory-tells payload ∙ ap Some (sym (eqb-true v memory_service z)))
+      go false z true y o x = unfold route pick routed in rw (z, y) (devices-tell payload ∙ ap Some (sym (eqb-true v device_service y)))
       go false z false y true x = unfold route pick routed in rw (z, y, x) (orders-tell v payload)
       go false z false y false x = unfold route pick routed in rw (z, y, x) (host-tells v)
 
 -- a message that closes the channel reaches no service
-closing-tells : (s : List ℕ) (c by handle : ℕ) → reached_by handle (closing s c by) ≡ Nowhere
+closing-tells : (s : List ℕ) (c by handle : ℕ) → reached_by handle (closing s c by) ≡ None
 unfolding closing reached_by served_by
-closing-tells s c by handle = on-pick (λ x. x ≡ Nowhere) _ _ _ (λ _. refl) (λ _. unfold pick ◌and◌ ◌or◌ in refl)
+closing-tells s c by handle = on-pick (λ x. x ≡ None) _ _ _ (λ _. refl) (λ _. unfold pick ◌and◌ ◌or◌ in refl)
 
 -- data on any channel
 receiving-tells : (s : List ℕ) (g : Sound s) (c handle : ℕ) → c < channel_count → (m : List ℕ) → decoded m ≡ Data handle → reached_by handle (receiving s c m) ≡ registered_for s c handle
@@ -268,18 +267,18 @@ receiving-tells s g c handle h m d =
     ∙ sym (first-nowhere service_count (registered_as s c handle) (λ v l. none-closed s g c handle v h l r))))
 
 -- data that reached the memory service is answered by it
-pub memory-answers : (s : List ℕ) (c handle : ℕ) (m : List ℕ) → WellFormedData m handle → reached_by handle (effect_of s (receive c m)) ≡ At memory_service → effect_of s (receive c m) ≡ answered_memory s c handle (drop data_header_bytes m)
+pub memory-answers : (s : List ℕ) (c handle : ℕ) (m : List ℕ) → WellFormedData m handle → reached_by handle (effect_of s (receive c m)) ≡ Some memory_service → effect_of s (receive c m) ≡ answered_memory s c handle (drop data_header_bytes m)
 unfolding effect_of receiving heard hears
 memory-answers s c handle m d =
     rw (data-decoded m handle d)
-    (on-pick (λ (e : Effect). reached_by handle e ≡ At memory_service → e ≡ answered_memory s c handle (drop data_header_bytes m)) _ _ _
+    (on-pick (λ (e : Effect). reached_by handle e ≡ Some memory_service → e ≡ answered_memory s c handle (drop data_header_bytes m)) _ _ _
     (λ r e. found (registered_for s c handle) (sym (data-tells s c handle _ (registered_for s c handle)) ∙ e))
     (λ r e. absurd (nowhere (sym (closing-tells s c 1 handle) ∙ e))))
   where
-    found : (x : Found) → x ≡ At memory_service → data_for s c handle (drop data_header_bytes m) x ≡ answered_memory s c handle (drop data_header_bytes m)
+    found : (x : Option ℕ) → x ≡ Some memory_service → data_for s c handle (drop data_header_bytes m) x ≡ answered_memory s c handle (drop data_header_bytes m)
     found x e = unfold data_for route routed pick in rw e
 
-    nowhere : Nowhere ≡ At memory_service → ⊥
+    nowhere : None ≡ Some memory_service → ⊥
     nowhere e = let z : ◌≡◌ {A = ℕ} 0 1 = cc in omega arith
 
 -- the data clause of an accepted receive
@@ -327,16 +326,16 @@ unfolding reached_peer_by
 other-kind handle e n = and-false-right _ _ (ne_eqb _ kind_peer_data n)
 
 -- what reached one of our services is of another kind
-ours-other : (handle v : ℕ) (e : Effect) → reached_by handle e ≡ At v → e.event.kind ≡ kind_peer_data → ⊥
+ours-other : (handle v : ℕ) (e : Effect) → reached_by handle e ≡ Some v → e.event.kind ≡ kind_peer_data → ⊥
 unfolding reached_by
 ours-other handle v e r k =
-    on-pick (λ (x : Found). x ≡ At v → ⊥) (same_bytes e.reply (nack handle DS-INV-HDL)) Nowhere (served_by e.event) (λ _ q. no q)
+    on-pick (λ (x : Option ℕ). x ≡ Some v → ⊥) (same_bytes e.reply (nack handle DS-INV-HDL)) None (served_by e.event) (λ _ q. no q)
     (λ _ q. no (sym none ∙ q)) r
   where
-    no : Nowhere ≡ At v → ⊥
+    no : None ≡ Some v → ⊥
     no q = let z : ◌≡◌ {A = ℕ} 0 1 = cc in omega arith
 
-    none : served_by e.event ≡ Nowhere
+    none : served_by e.event ≡ None
     none = unfold served_by in (rw k (unfold pick ◌and◌ ◌or◌ in refl))
 
 module _ (s : List ℕ) (g : Sound s) (c handle : ℕ) (h : c < channel_count) where
@@ -372,15 +371,15 @@ module _ (s : List ℕ) (g : Sound s) (c handle : ℕ) (h : c < channel_count) w
   found_none : ((p : ℕ) → p < most_ids → peered_as s c handle p ≡ false) → false ≡ is_found (peer_for s c handle)
   found_none n = unfold is_found in (rw (first-nowhere most_ids (peered_as s c handle) n))
 
-  peer-data-tells : (x : Found) → reached_peer_by handle (peer_data s c handle x) ≡ is_found x
+  peer-data-tells : (x : Option ℕ) → reached_peer_by handle (peer_data s c handle x) ≡ is_found x
   unfolding peer_data is_found
-  peer-data-tells (At p) = unfold reached_peer_by ◌and◌ in (rw (empty-no-nack handle))
-  peer-data-tells Nowhere = other-kind handle (effect (data_refused_event c handle) s (nack handle DS-INV-HDL)) (λ q. omega arith)
+  peer-data-tells (Some p) = unfold reached_peer_by ◌and◌ in (rw (empty-no-nack handle))
+  peer-data-tells None = other-kind handle (effect (data_refused_event c handle) s (nack handle DS-INV-HDL)) (λ q. omega arith)
 
   data-tells-peer : (payload : List ℕ) → reached_peer_by handle (data_for s c handle payload (registered_for s c handle)) ≡ is_found (peer_for s c handle)
   data-tells-peer payload =
       on-first (λ x. reached_peer_by handle (data_for s c handle payload x) ≡ is_found (peer_for s c handle)) service_count (registered_as s c handle)
-      (λ v r. other-kind handle (data_for s c handle payload (At v)) (ours-other handle v _ (data-tells s c handle payload (At v))) ∙ found_none (no-peer-ours v r.below r.passes))
+      (λ v r. other-kind handle (data_for s c handle payload (Some v)) (ours-other handle v _ (data-tells s c handle payload (Some v))) ∙ found_none (no-peer-ours v r.below r.passes))
       (λ _. unfold data_for in (peer-data-tells (peer_for s c handle)))
 
   receiving-tells-peer : (m : List ℕ) → decoded m ≡ Data handle → reached_peer_by handle (receiving s c m) ≡ is_found (peer_for s c handle)

@@ -1,5 +1,6 @@
 -- Words that say a sound state are accepted.
 -- Assumes nothing.
+use Rattle.std.specs.Prelude.{Some}
 use mathlib.Core.Path.{◌≡◌, refl, ap, ◌∙◌}
 use mathlib.Core.Bool.{Bool, true, false, not}
 use mathlib.Core.List.{List, [], ◌∷◌}
@@ -11,7 +12,6 @@ use lib.Seq.{sets, length-sets}
 use lib.Dec.{eqb, leb, ltb}
 use borrow.Author.Tests.{le-leb, le-ltb, lt-ltb, eq-eqb, ne_eqb, eqb-true, eqb-false}
 use Rattle.basics.specs.Choice.{pick, ◌or◌, first_below, tabulate}
-use Rattle.basics.specs.declared.Found.TheVariants.{At}
 use Rattle.model.specs.declared.Removal.{Removal}
 use Rattle.model.specs.Layout.{block_at, block_in, block_words, channel_count, place_count, service_count, first_block_word, last_of, outstanding_of, stage_at, handle_at, minor_at, ready_at, stage_idle, stage_registered, word_of, is_set, removal_of, held_of, with_removal, first_stage_word, service_words, state_words, block_count_word, last_word, held_word, outstanding_word, most_records, first_numbered_word, device_count_word, first_device_word, device_configured_place, device_words, name_place, name_bytes_in, device_in, devices_of, first_permission_word, order_shutdown, order_panic, highest_delay, most_ids, id_words, id_place, id_minor_place, id_count_word, first_id_word, first_peer_word, mark_words, peer_words, bit_of, ids_of, id_in, id_bytes_in, peered_at, peer_handle_at, peer_minor_at}
 use Rattle.model.specs.Devices.{words_holding, device_keeps, devices_keep}
@@ -125,7 +125,7 @@ module _ (s : List ℕ) (t : Told) (w : Says s t) (f : SoundTold t) where
         (first-same (length t.lists.blocks / block_words) (λ i. names a b (block_in t.lists.blocks 0 i)) (λ i. names a b (block_at s i))
         (λ i h. ap (names a b) (w.block i h)))
 
-    room-said : (i : ℕ) → t.removal.position < t.removal.count → block_told t.lists.blocks t.removal ≡ At i → (block_in t.lists.blocks 0 i).configured ≡ 1 → removal_room s (removal_of s) ≡ (block_in t.lists.blocks 0 i).pages
+    room-said : (i : ℕ) → t.removal.position < t.removal.count → block_told t.lists.blocks t.removal ≡ Some i → (block_in t.lists.blocks 0 i).configured ≡ 1 → removal_room s (removal_of s) ≡ (block_in t.lists.blocks 0 i).pages
     unfolding removal_room block_told room_at pick
     room-said i p q z =
         rw (

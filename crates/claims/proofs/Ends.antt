@@ -1,5 +1,6 @@
 -- A removal ends, and the pages of a record settled OK add up, as specs/Ends.antt states it.
 -- Assumes nothing.
+use Rattle.std.specs.Prelude.{Option, Some, None}
 use Prim.Native.Nat.{ℕ, zero, suc, ◌+◌, ◌-◌, ◌≤◌, ◌<◌, ◌/◌}
 use native.Mathlib.Omega.{arith}
 use native.Mathlib.Numerals.{add-one}
@@ -13,8 +14,6 @@ use lib.Dec.{eqb}
 use borrow.Author.Tests.{leb-true, lt-ltb, ne_eqb, eqb-true, eqb-false}
 use Rattle.basics.specs.Choice.{pick, ◌and◌, ◌or◌}
 use Rattle.model.specs.declared.Event.{Event}
-use Rattle.basics.specs.declared.Found.{Found}
-use Rattle.basics.specs.declared.Found.TheVariants.{At, Nowhere}
 use Rattle.model.specs.declared.Removal.{Removal}
 use Rattle.model.specs.Layout.{Block, block_at, blocks_of, last_of, held_of, outstanding_of, removal_of, with_counts, most_blocks, state_words, block_in, block_words}
 use Rattle.model.specs.Blocks.{Lists, named_block, named_in}
@@ -49,10 +48,10 @@ use Rattle.claims.proofs.Demand3.{mark-back, First, at_first, kept-meeting, meet
 
 -- Pages of records.
 module _ (s t : List ℕ) (b : SameSizes s t) where
-  pages-at-same : (x : Found) (addr size : ℕ) → named_block s addr size ≡ x → pages_at t x ≡ pages_at s x
+  pages-at-same : (x : Option ℕ) (addr size : ℕ) → named_block s addr size ≡ x → pages_at t x ≡ pages_at s x
   unfolding pages_at
-  pages-at-same (At i) addr size e = b.pages i (named-less s addr size i e)
-  pages-at-same Nowhere addr size e = refl
+  pages-at-same (Some i) addr size e = b.pages i (named-less s addr size i e)
+  pages-at-same None addr size e = refl
 
   -- the same pairs, over blocks of the same sizes
   first-same : (m m' : Removal) → m'.address ≡ m.address → m'.size ≡ m.size → (n : ℕ) → pages_of_first t m' n ≡ pages_of_first s m n
@@ -343,10 +342,10 @@ module _ (l : Lists) (t : List ℕ) (m : Removal) (b : List ℕ) (n : ℕ)
     (pages : (i : ℕ) → i < blocks_of t → (block_at t i).pages ≡ (block_in l.blocks 0 i).pages)
     (addresses : (i : ℕ) → i < n → address_at m i ≡ addr_in b i)
     (sizes : (i : ℕ) → i < n → size_at m i ≡ size_in b i) where
-  listed-pages : (x : Found) (addr size : ℕ) → named_block t addr size ≡ x → pages_at t x ≡ pages_listed l x
+  listed-pages : (x : Option ℕ) (addr size : ℕ) → named_block t addr size ≡ x → pages_at t x ≡ pages_listed l x
   unfolding pages_at pages_listed
-  listed-pages (At i) addr size e = pages i (named-less t addr size i e)
-  listed-pages Nowhere addr size e = refl
+  listed-pages (Some i) addr size e = pages i (named-less t addr size i e)
+  listed-pages None addr size e = refl
 
   asked-pages : (k : ℕ) → k ≤ n → pages_of_first t m k ≡ pages_asked l b k
   unfolding pages_of_first pages_asked

@@ -1,5 +1,6 @@
 -- A pair that stands twice, as specs/Repeats.antt states it.
 -- Assumes nothing.
+use Rattle.std.specs.Prelude.{Some}
 use Prim.Native.Nat.{ℕ, ◌+◌, ◌*◌, ◌%◌, ◌^◌, ◌≤◌, ◌<◌}
 use native.Mathlib.Omega.{arith}
 use mathlib.Core.Path.{◌≡◌, refl, sym, ap, ◌∙◌}
@@ -12,7 +13,6 @@ use Rattle.wire.specs.BigEndian.{bytes_of, number_at}
 use Rattle.wire.proofs.Laws.{length-bytes, number-of-bytes}
 use Rattle.basics.specs.Choice.{pick, ◌and◌, is_found, joined}
 use Rattle.model.specs.declared.Event.{Event}
-use Rattle.basics.specs.declared.Found.TheVariants.{At}
 use Rattle.model.specs.Layout.{memory_service, reply_header_bytes, result_bytes, query_bytes, outstanding_of, removal_of, most_records, state_words, memory_header_bytes, is_set, outstanding_word, most_blocks, blocks_of, with_removal}
 use Rattle.model.specs.Journal.{kind_settled, begun_event, kind_removal_end}
 use Rattle.model.specs.declared.Request.TheVariants.{Configure, Query, Unconfigure}
@@ -203,7 +203,7 @@ module _ (s j out : List ℕ) (c handle : ℕ) (m : List ℕ) (r : Outcome) (siz
       go : refusal_of s j out (receive c m) ≡ 0 → accepted s j out (pages_of s (receive c m)) (effect_of s (receive c m)) ≡ r → Answers (requested (numbered s c (request_in m)) c handle (request_number (request_in m)) (request_in m) x)
       go y e =
           let t = taken s j out (receive c m) size y in
-          let tells : reached_by handle (effect_of s (receive c m)) ≡ At memory_service =
+          let tells : reached_by handle (effect_of s (receive c m)) ≡ Some memory_service =
           sym (reached-of s j out (pages_of s (receive c m)) (effect_of s (receive c m)) t handle) ∙ ap (reached handle) e ∙ a.reaches in
           let is : effect_of s (receive c m) ≡ requested (numbered s c (request_in m)) c handle (request_number (request_in m)) (request_in m) x =
           memory-answers s c handle m a.is_data tells ∙ risen-answer s c handle (request_in m) x q f a.is_higher in

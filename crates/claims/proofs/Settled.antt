@@ -1,5 +1,6 @@
 -- While a removal is outstanding, the block of each settled record is unconfigured: every call keeps it.
 -- Assumes nothing.
+use Rattle.std.specs.Prelude.{Option, Some, None}
 use Prim.Native.Nat.{ℕ, ◌+◌, ◌≤◌, ◌<◌}
 use native.Mathlib.Omega.{arith}
 use mathlib.Core.Path.{◌≡◌, refl, ◌∙◌, sym}
@@ -8,8 +9,6 @@ use mathlib.Core.List.{List}
 use lib.Dec.{eqb}
 use borrow.Author.Tests.{eq-eqb, eqb-true, eqb-false}
 use Rattle.basics.specs.Choice.{◌or◌}
-use Rattle.basics.specs.declared.Found.{Found}
-use Rattle.basics.specs.declared.Found.TheVariants.{At, Nowhere}
 use Rattle.model.specs.declared.Removal.{Removal}
 use Rattle.model.specs.Layout.{block_at, blocks_of, last_of, held_of, outstanding_of, removal_of, with_counts, most_blocks}
 use Rattle.model.specs.Blocks.{named_block}
@@ -28,7 +27,7 @@ use Rattle.model.proofs.Turns.{SameBlocks, SameRemoval, same_blocks, same-remova
 use Rattle.claims.proofs.Steps.{Step, adds, nowork, ok, ends, step_of}
 
 -- the block of record i of a removal
-abbrev block_of : List ℕ → Removal → ℕ → Found
+abbrev block_of : List ℕ → Removal → ℕ → Option ℕ
 block_of s m i = named_block s (address_at m i) (size_at m i)
 
 -- the records of a removal before its position name unconfigured blocks
@@ -52,10 +51,10 @@ module _ (s : List ℕ) where
   settled-none z = rw (eq-eqb _ 0 z)
 
 -- a block that is unconfigured still is, where flags fall or stay
-unconfigured-kept : (s t : List ℕ) (x : Found) → ((k : ℕ) → x ≡ At k → (block_at s k).configured ≡ 0 → (block_at t k).configured ≡ 0) → is_unconfigured s x ≡ true → is_unconfigured t x ≡ true
+unconfigured-kept : (s t : List ℕ) (x : Option ℕ) → ((k : ℕ) → x ≡ Some k → (block_at s k).configured ≡ 0 → (block_at t k).configured ≡ 0) → is_unconfigured s x ≡ true → is_unconfigured t x ≡ true
 unfolding is_unconfigured
-unconfigured-kept s t (At k) f e = eq-eqb _ 0 (f k refl (eqb-true _ 0 e))
-unconfigured-kept s t Nowhere f e = e
+unconfigured-kept s t (Some k) f e = eq-eqb _ 0 (f k refl (eqb-true _ 0 e))
+unconfigured-kept s t None f e = e
 
 module _ (s t : List ℕ) (b : SameBlocks s t) where
   -- the blocks as before, and a removal with the pairs and the position of m
@@ -168,7 +167,7 @@ nowork-more m r within old here i k h again = go (eqb i m.position) refl
         less a b l n = omega arith
 
 -- a repeat's block is that of the earlier record
-pub repeat-unconfigured : (s : List ℕ) → settled_unconfigured s ≡ true → outstanding_of s ≡ 1 → (k : ℕ) → Repeat (address_at (removal_of s)) (size_at (removal_of s)) k (removal_of s).position → (i : ℕ) → block_of s (removal_of s) (removal_of s).position ≡ At i → (block_at s i).configured ≡ 0
+pub repeat-unconfigured : (s : List ℕ) → settled_unconfigured s ≡ true → outstanding_of s ≡ 1 → (k : ℕ) → Repeat (address_at (removal_of s)) (size_at (removal_of s)) k (removal_of s).position → (i : ℕ) → block_of s (removal_of s) (removal_of s).position ≡ Some i → (block_at s i).configured ≡ 0
 unfolding is_unconfigured
 repeat-unconfigured s q one k again i named =
     eqb-true _ 0 (rw (again.same_address, again.same_size, named) at (settled_at s q one k again.earlier))

@@ -2,13 +2,11 @@
 -- A message is any list of numbers, each read as a byte; journals, runs and the lists of setup are any lists; channels, services and budgets
 -- any numbers.
 -- Assumes nothing.
-use Rattle.std.specs.Prelude.{ℕ, ◌+◌, ◌-◌, ◌≤◌, ◌<◌, ◌≡◌, Bool, true, false, not, List, [], ◌∷◌, ◌++◌, length, get_or, take, eqb}
+use Rattle.std.specs.Prelude.{ℕ, ◌+◌, ◌-◌, ◌≤◌, ◌<◌, ◌≡◌, Bool, true, false, not, List, [], ◌∷◌, ◌++◌, length, get_or, take, eqb, Option, None}
 use Rattle.wire.specs.BigEndian.{number_at}
 use Rattle.entry.specs.Word.{unpacked}
 use Rattle.basics.specs.Choice.{pick, ◌and◌, first_below, is_found, is_at}
 use Rattle.model.specs.declared.Event.{Event}
-use Rattle.basics.specs.declared.Found.{Found}
-use Rattle.basics.specs.declared.Found.TheVariants.{Nowhere}
 use Rattle.model.specs.Layout.{service_count, most_held, most_ids, ds_header_bytes, last_of, held_of}
 use Rattle.model.specs.Blocks.{Lists}
 use Rattle.model.specs.Journal.{Entry, event_of, entry_at, entries_at, entries_in, served_by, kind_peer_data}
@@ -94,8 +92,8 @@ noted r = event_of (unpacked (last_entry r).first) (last_entry r).second
 
 -- the one of our four services that data under a handle has reached, if any: "it has reached it if the reply is not the NACK named next and its entry is of
 -- kind 8, or of 10 to 13 for service 0", and by 02's tickets those that `served_by` names
-unfoldable pub reached : ℕ → Outcome → Found
-reached handle r = pick (same_bytes (reply_of r) (nack handle DS-INV-HDL)) Nowhere (served_by (noted r))
+unfoldable pub reached : ℕ → Outcome → Option ℕ
+reached handle r = pick (same_bytes (reply_of r) (nack handle DS-INV-HDL)) None (served_by (noted r))
 
 -- 02, ticket 7: data on a peer's handle "has then reached its service", and whether a reading shows the handle registered there by the peer
 unfoldable pub reached_peer : ℕ → Outcome → Bool

@@ -1,11 +1,9 @@
 -- The refusal numbers "are given in no other case", and so 8: a state as 01 and 02 tell it, the words that say it, and the claim that a sound one has words
 -- and that all words that say it are accepted, whatever those without a meaning in it hold.
 -- Assumes nothing.
-use Rattle.std.specs.Prelude.{ℕ, zero, suc, ◌+◌, ◌-◌, ◌*◌, ◌/◌, ◌%◌, ◌^◌, ◌≤◌, ◌<◌, ◌≡◌, Bool, true, List, [], ◌∷◌, length, get_or, ltb}
+use Rattle.std.specs.Prelude.{ℕ, zero, suc, ◌+◌, ◌-◌, ◌*◌, ◌/◌, ◌%◌, ◌^◌, ◌≤◌, ◌<◌, ◌≡◌, Bool, true, List, [], ◌∷◌, length, get_or, ltb, Option, Some}
 use Rattle.std.proofs.lemmas.List.Edits.{sets}
 use Rattle.basics.specs.Choice.{pick, tabulate, first_below}
-use Rattle.basics.specs.declared.Found.{Found}
-use Rattle.basics.specs.declared.Found.TheVariants.{At}
 use Rattle.model.specs.declared.Removal.{Removal}
 use Rattle.model.specs.Layout.{channel_count, service_count, place_count, most_records, most_held, highest_number, highest_minor, stage_idle, stage_offered, stage_registered, block_words, state_words, ready_at, stage_at, handle_at, minor_at, blocks_of, block_in, block_at, last_of, held_of, outstanding_of, cancelled_of, word_of, removal_of, with_service, with_counts, with_removal, device_words, name_place, first_device_word, devices_of, name_bytes_in, shutdown_service, panic_service, first_permission_word, order_none, order_shutdown, order_panic, highest_delay, permission_at, order_of, delay_of, most_ids, most_peers, id_words, id_place, first_id_word, first_peer_word, mark_words, peer_words, ids_of, id_in, id_bytes_in, peered_at, peer_handle_at, peer_minor_at}
 use Rattle.model.specs.Devices.{words_holding}
@@ -33,7 +31,7 @@ pub data LiveAs : Stage → ℕ → Type 0 where
   is_registered : (handle minor : ℕ) → LiveAs (registered handle minor) handle
 
 -- the block that the pair at a removal's position names, where the position is a record's (`below` asks that)
-unfoldable pub block_told : List ℕ → Removal → Found
+unfoldable pub block_told : List ℕ → Removal → Option ℕ
 block_told l m =
     first_below (length l / block_words)
     (λ i. names (get_or m.address m.position 0) (get_or m.size m.position 0) (block_in l 0 i))
@@ -44,7 +42,7 @@ pub data CollectedTold (l : List ℕ) (m : Removal) : Type 0 where
   below :
       (i : ℕ) →
       m.position < m.count →
-      block_told l m ≡ At i →
+      block_told l m ≡ Some i →
       (block_in l 0 i).configured ≡ 1 →
       m.collected < (block_in l 0 i).pages →
       CollectedTold l m

@@ -2,12 +2,10 @@
 -- (P + 1)th accepted work step after its beginning, and that the pages moved in the entries of each record settled OK add up to that block's pages exactly."
 -- A claim about a list of calls with what each returned and left, as Demand3 is.
 -- Assumes nothing.
-use Rattle.std.specs.Prelude.{ℕ, zero, suc, ◌+◌, ◌/◌, ◌≤◌, ◌<◌, ◌≡◌, Bool, true, false, not, List, [], ◌∷◌, ◌++◌, length, get_or, take, eqb}
+use Rattle.std.specs.Prelude.{ℕ, zero, suc, ◌+◌, ◌/◌, ◌≤◌, ◌<◌, ◌≡◌, Bool, true, false, not, List, [], ◌∷◌, ◌++◌, length, get_or, take, eqb, Option, Some, None}
 use Rattle.entry.specs.Word.{unpacked}
 use Rattle.basics.specs.Choice.{pick, ◌and◌, ◌or◌}
 use Rattle.model.specs.declared.Event.{Event}
-use Rattle.basics.specs.declared.Found.{Found}
-use Rattle.basics.specs.declared.Found.TheVariants.{At, Nowhere}
 use Rattle.model.specs.declared.Removal.{Removal}
 use Rattle.model.specs.Layout.{block_words, block_in, block_at, outstanding_of, removal_of}
 use Rattle.model.specs.Blocks.{Lists, named_in, named_block}
@@ -19,9 +17,9 @@ use Rattle.claims.specs.Demand3.{Done, new_run, runs, entries, no_entry, noted}
 use Rattle.claims.specs.Repeats.{address_at, size_at, request_in, left_by, Requests, Hears}
 
 -- the pages of the block that a pair names; an unknown pair has none
-unfoldable pub pages_at : List ℕ → Found → ℕ
-pages_at s (At i) = (block_at s i).pages
-pages_at s Nowhere = 0
+unfoldable pub pages_at : List ℕ → Option ℕ → ℕ
+pages_at s (Some i) = (block_at s i).pages
+pages_at s None = 0
 
 -- those of the first n records of a removal together, "repeats counted again"
 unfoldable pub pages_of_first : List ℕ → Removal → ℕ → ℕ
@@ -33,9 +31,9 @@ abbrev pub pages_named : List ℕ → ℕ
 pages_named s = pages_of_first s (removal_of s) (removal_of s).count
 
 -- P by the request b of n pairs and the block list alone
-unfoldable pub pages_listed : Lists → Found → ℕ
-pages_listed l (At i) = (block_in l.blocks 0 i).pages
-pages_listed l Nowhere = 0
+unfoldable pub pages_listed : Lists → Option ℕ → ℕ
+pages_listed l (Some i) = (block_in l.blocks 0 i).pages
+pages_listed l None = 0
 
 unfoldable pub pages_asked : Lists → List ℕ → ℕ → ℕ
 pages_asked l b zero = 0

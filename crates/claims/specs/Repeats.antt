@@ -1,11 +1,9 @@
 -- 02, ticket 2: "A repeat is handled in its turn: in demand 3's lists one that a removal settles, or that a configure comes to before any failure,
 -- gets NOWORK. QUERY repeats its answer." A claim about a list of calls with what each returned and left, as Demand3 is.
 -- Assumes nothing.
-use Rattle.std.specs.Prelude.{ℕ, ◌+◌, ◌*◌, ◌≤◌, ◌<◌, ◌≡◌, Bool, true, false, List, ◌∷◌, ◌++◌, length, get_or, take, drop, eqb}
+use Rattle.std.specs.Prelude.{ℕ, ◌+◌, ◌*◌, ◌≤◌, ◌<◌, ◌≡◌, Bool, true, false, List, ◌∷◌, ◌++◌, length, get_or, take, drop, eqb, Option, Some, None}
 use Rattle.wire.specs.BigEndian.{number_at}
 use Rattle.basics.specs.Choice.{◌or◌, every, is_found}
-use Rattle.basics.specs.declared.Found.{Found}
-use Rattle.basics.specs.declared.Found.TheVariants.{At, Nowhere}
 use Rattle.model.specs.declared.Removal.{Removal}
 use Rattle.model.specs.Layout.{memory_service, most_records, data_header_bytes, memory_header_bytes, pair_bytes, reply_header_bytes, result_bytes, query_bytes, block_at, outstanding_of, removal_of}
 use Rattle.model.specs.Blocks.{named_block}
@@ -28,9 +26,9 @@ abbrev pub size_at : Removal → ℕ → ℕ
 size_at m i = get_or m.size i 0
 
 -- the block that a pair names is unconfigured
-unfoldable pub is_unconfigured : List ℕ → Found → Bool
-is_unconfigured s (At i) = eqb (block_at s i).configured 0
-is_unconfigured s Nowhere = false
+unfoldable pub is_unconfigured : List ℕ → Option ℕ → Bool
+is_unconfigured s (Some i) = eqb (block_at s i).configured 0
+is_unconfigured s None = false
 
 -- While a removal is outstanding, the block of each settled record is unconfigured. It holds of every list's state, and not of every sound one.
 unfoldable pub settled_unconfigured : List ℕ → Bool
@@ -67,7 +65,7 @@ pub record Requests (b : List ℕ) (type n : ℕ) : Type 0 where
 pub record Hears (s : List ℕ) (c : ℕ) (m : List ℕ) (handle : ℕ) (r : Outcome) : Type 0 where
   pub is_data : WellFormedData m handle
   pub accepted : r.refusal ≡ 0
-  pub reaches : reached handle r ≡ At memory_service
+  pub reaches : reached handle r ≡ Some memory_service
   pub is_higher : rises s c (request_number (request_in m)) ≡ true
 
 -- a removal of the n pairs of the request b is begun, in the entry and in the state that the call left

@@ -1,5 +1,6 @@
 -- CONFIGURE's records one by one, and its reply.
 -- Assumes nothing.
+use Rattle.std.specs.Prelude.{Option, Some, None}
 use mathlib.Core.Path.{◌≡◌, refl, sym, ap, ◌∙◌}
 use mathlib.Core.Bool.{Bool, true, false}
 use mathlib.Core.List.{List, [], ◌∷◌, ◌++◌}
@@ -13,8 +14,6 @@ use lib.Dec.{eqb}
 use borrow.Author.Tests.{eq-eqb, ne_eqb, eqb-true, eqb-false}
 use Rattle.basics.specs.Choice.{pick, ◌and◌, every, joined}
 use Rattle.model.specs.declared.Event.{Event}
-use Rattle.basics.specs.declared.Found.{Found}
-use Rattle.basics.specs.declared.Found.TheVariants.{At, Nowhere}
 use Rattle.model.specs.Layout.{memory_service, block_at, blocks_of, most_blocks, most_records, output_bytes, reply_header_bytes, result_bytes, state_words, with_configured}
 use Rattle.model.specs.Blocks.{named_block}
 use Rattle.model.specs.Search.{BlocksInOrder}
@@ -63,9 +62,9 @@ module _ (s : List ℕ) (n : length s ≡ state_words) (o : BlocksInOrder s) {bi
   status-kept : Change s bit s' → (addr size : ℕ) → Closed s addr size → status_of s' addr size ≡ status_of s addr size
   status-kept c addr size d = ap (status_at s') (named-kept c addr size) ∙ go (named_block s addr size) refl
     where
-      go : (x : Found) → named_block s addr size ≡ x → status_at s' x ≡ status_at s x
-      go (At k) e = unfold status_at in rw (flag-kept c k (d k e))
-      go Nowhere e = unfold status_at in refl
+      go : (x : Option ℕ) → named_block s addr size ≡ x → status_at s' x ≡ status_at s x
+      go (Some k) e = unfold status_at in rw (flag-kept c k (d k e))
+      go None e = unfold status_at in refl
 
 -- bits above and below one that is raised
 bit-other : (w i k : ℕ) → (k ≡ i → ⊥) → bit_at w i ≡ 0 → bit_at (w + 2 ^ i) k ≡ bit_at w k
@@ -103,12 +102,12 @@ bits-kept s n o (raises i l z b e) mask m =
         let d = eqb-false k i q in
         bit-other mask i k d (m.none i z) ∙ m.none k (sym (flag-else s i 1 n o.few l k d) ∙ y)
 
-at_same : (i k : ℕ) → ◌≡◌ {A = Found} (At i) (At k) → i ≡ k
+at_same : (i k : ℕ) → ◌≡◌ {A = Option ℕ} (Some i) (Some k) → i ≡ k
 at_same i k q = cc
 
 -- A record that names block i, by the cases of the definition.
 module _ (s : List ℕ) (i : ℕ) where
-  pub unchanged-at : ((block_at s i).configured ≡ 0 → ⊥) → ConfiguresAt s (At i) (record { result = DR-MEM-RES-NOWORK; bit = 0 }) s
+  pub unchanged-at : ((block_at s i).configured ≡ 0 → ⊥) → ConfiguresAt s (Some i) (record { result = DR-MEM-RES-NOWORK; bit = 0 }) s
   unfolding configure_at pick one_unchanged
   unchanged-at d = record {
     one = λ mask results. rw (ne_eqb _ _ d, add-zero);
@@ -116,7 +115,7 @@ module _ (s : List ℕ) (i : ℕ) where
     closes = λ f k q z. d (rw (at_same i k q) z);
   }
 
-  pub configured-at : length s ≡ state_words → BlocksInOrder s → i < blocks_of s → {bit : ℕ} {s' : List ℕ} → (block_at s i).configured ≡ 0 → s' ≡ with_configured s i 1 → bit ≡ 2 ^ i → ConfiguresAt s (At i) (record { result = DR-MEM-RES-OK; bit = bit }) s'
+  pub configured-at : length s ≡ state_words → BlocksInOrder s → i < blocks_of s → {bit : ℕ} {s' : List ℕ} → (block_at s i).configured ≡ 0 → s' ≡ with_configured s i 1 → bit ≡ 2 ^ i → ConfiguresAt s (Some i) (record { result = DR-MEM-RES-OK; bit = bit }) s'
   unfolding configure_at pick one_configured
   configured-at n o l z e p = record {
     one = λ mask results. rw (eq-eqb _ _ z, e, p);
@@ -124,7 +123,7 @@ module _ (s : List ℕ) (i : ℕ) where
     closes = λ f k q y. omega (arith, rw (e, ← at_same i k q) at y, flag-now s i 1 n o.few l);
   }
 
-pub unknown-at : (s : List ℕ) → ConfiguresAt s Nowhere (record { result = DR-MEM-RES-FAILURE; bit = 0 }) s
+pub unknown-at : (s : List ℕ) → ConfiguresAt s None (record { result = DR-MEM-RES-FAILURE; bit = 0 }) s
 unfolding configure_at one_failed
 unknown-at s = record { one = λ mask results. rw add-zero; change = leaves refl refl; closes = λ f. absurd (clash true f refl) }
 
@@ -139,7 +138,7 @@ module _ (s : List ℕ) (failed : Bool) (addr size : ℕ) where
     stops = λ _. (refl, refl);
   }
 
-  pub found-one : length s ≡ state_words → BlocksInOrder s → {r : OneDone} {s' : List ℕ} (x : Found) → failed ≡ false → named_block s addr size ≡ x → ConfiguresAt s x r s' → ConfiguresOne s failed addr size r s'
+  pub found-one : length s ≡ state_words → BlocksInOrder s → {r : OneDone} {s' : List ℕ} (x : Option ℕ) → failed ≡ false → named_block s addr size ≡ x → ConfiguresAt s x r s' → ConfiguresOne s failed addr size r s'
   unfolding configure_one pick
   found-one n o x f e a = record {
     one = λ mask results. rw (f, e) (a.one mask results);

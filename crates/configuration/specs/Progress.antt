@@ -1,10 +1,8 @@
 -- CONFIGURE's records one by one: what one of them does, and what all of them do.
 -- Assumes nothing.
-use Rattle.std.specs.Prelude.{ℕ, ◌+◌, ◌^◌, ◌<◌, ◌≡◌, Bool, true, false, List, [], ◌∷◌, ◌++◌, get_or, eqb}
+use Rattle.std.specs.Prelude.{ℕ, ◌+◌, ◌^◌, ◌<◌, ◌≡◌, Bool, true, false, List, [], ◌∷◌, ◌++◌, get_or, eqb, Option, Some}
 use Rattle.std.proofs.lemmas.List.Edits.{sets}
 use Rattle.basics.specs.Choice.{joined}
-use Rattle.basics.specs.declared.Found.{Found}
-use Rattle.basics.specs.declared.Found.TheVariants.{At}
 use Rattle.model.specs.Layout.{most_blocks, blocks_of, block_at, reply_header_bytes, with_configured}
 use Rattle.model.specs.Blocks.{named_block}
 use Rattle.model.specs.Memory.{DR-MEM-RES-FAILURE, Progress, addr_in, size_in, result_record, configure_at, configure_one, configured_by}
@@ -24,13 +22,13 @@ pub data Change (s : List ℕ) (bit : ℕ) (s' : List ℕ) : Type 0 where
 
 -- the block that a pair names, if there is one, is not unconfigured
 abbrev pub Closed : List ℕ → ℕ → ℕ → Type 0
-Closed s addr size = (i : ℕ) → named_block s addr size ≡ At i → (block_at s i).configured ≡ 0 → ⊥
+Closed s addr size = (i : ℕ) → named_block s addr size ≡ Some i → (block_at s i).configured ≡ 0 → ⊥
 
 -- one record that names this block, or none, after any others: its result r tells whether it failed
-pub record ConfiguresAt (s : List ℕ) (found : Found) (r : OneDone) (s' : List ℕ) : Type 0 where
+pub record ConfiguresAt (s : List ℕ) (found : Option ℕ) (r : OneDone) (s' : List ℕ) : Type 0 where
   pub one : (mask : ℕ) (results : List ℕ) → progress s' (mask + r.bit) (eqb r.result DR-MEM-RES-FAILURE) (results ++ r.result ∷ []) ≡ configure_at (progress s mask false results) found
   pub change : Change s r.bit s'
-  pub closes : eqb r.result DR-MEM-RES-FAILURE ≡ false → (i : ℕ) → found ≡ At i → (block_at s' i).configured ≡ 0 → ⊥
+  pub closes : eqb r.result DR-MEM-RES-FAILURE ≡ false → (i : ℕ) → found ≡ Some i → (block_at s' i).configured ≡ 0 → ⊥
 
 -- one record, after any others: it leaves the block that it names configured, and after a failure it fails too and changes nothing
 pub record ConfiguresOne (s : List ℕ) (failed : Bool) (addr size : ℕ) (r : OneDone) (s' : List ℕ) : Type 0 where

@@ -1,15 +1,13 @@
 // CONFIGURE: its records in order, and its reply.
 #![tactic(auto)]
 
-ghost use Rattle.std.specs.Prelude.{◌≡◌, ◌+◌, ◌*◌, ◌^◌, ◌≤◌, ◌<◌, length};
-ghost use Rattle.basics.specs.declared.Found.TheVariants.{At};
+ghost use Rattle.std.specs.Prelude.{◌≡◌, ◌+◌, ◌*◌, ◌^◌, ◌≤◌, ◌<◌, length, Some};
 ghost use Rattle.model.specs.Layout.{blocks_of, memory_header_bytes, most_blocks, most_records, output_bytes, pair_bytes, state_words};
 ghost use Rattle.model.specs.Search.{BlocksInOrder};
 ghost use Rattle.model.specs.Memory.{configured_by, answering_configure};
 ghost use Rattle.model.specs.Handler.{Handles};
 ghost use Rattle.configuration.specs.Progress.{ConfiguresAt, ConfiguresOne, ConfiguresAll};
 
-use basics::Found;
 use model::{DR_MEM_RES_FAILURE, DR_MEM_RES_NOWORK, DR_MEM_RES_OK, Handled, MEMORY_SERVICE, State};
 
 // The bit of block `i`.
@@ -30,7 +28,7 @@ struct OneDone {
 // "unconfigured gives OK (0) and configures, configured gives NOWORK (4)"
 fn configure_at(state: &mut State, i: usize) -> OneDone
     requires { (i < blocks_of state.old) × BlocksInOrder state.old × (length state.old ≡ state_words) }
-    ensures { ConfiguresAt state.old (At i) result state.new }
+    ensures { ConfiguresAt state.old (Some i) result state.new }
 {
     if state::configured_of(state, i) != 0 {
         return OneDone {
@@ -58,8 +56,8 @@ fn configure_one(state: &mut State, failed: bool, addr: u64, size: u64) -> OneDo
     }
     let found = blocks::named_block(state, addr, size);
     match found {
-        Found::At { place } => configure_at(state, place),
-        Found::Nowhere => OneDone {
+        Some(place) => configure_at(state, place),
+        None => OneDone {
             result: DR_MEM_RES_FAILURE,
             bit: 0,
         },

@@ -7,7 +7,6 @@ ghost use Rattle.model.specs.Layout.{device_at, device_in, devices_of, device_wo
 ghost use Rattle.model.specs.Devices.{accepted_devices, device_apart, device_keeps, devices_keep, is_device, name_keeps, named_device};
 ghost use Rattle.device_list.specs.Rising.{ids_rise};
 
-use basics::Found;
 use model::{
     BUSY_PLACE, DEVICE_CONFIGURED_PLACE, DEVICE_COUNT_WORD, DEVICE_WORDS, FIRST_DEVICE_WORD,
     MOST_DEVICES, MOST_NAME_BYTES, NAME_BYTES_PLACE, NAME_PLACE, State,
@@ -192,7 +191,7 @@ fn is_device(words: &[u64], at: usize, i: usize, id: u64, name: &[u8]) -> bool
 }
 
 // The state's device that the id and the name name, if there is one.
-pub fn named_device(state: &State, id: u64, name: &[u8]) -> Found
+pub fn named_device(state: &State, id: u64, name: &[u8]) -> Option<usize>
     requires { devices_keep state.now first_device_word (devices_of state.now) ≡ true }
     ensures { result ≡ named_device state.now id name.now }
 {
@@ -200,11 +199,11 @@ pub fn named_device(state: &State, id: u64, name: &[u8]) -> Found
     let mut i: usize = 0;
     while i < count {
         if is_device(state, FIRST_DEVICE_WORD, i, id, name) {
-            return Found::At { place: i };
+            return Some(i);
         }
         i += 1;
     }
-    Found::Nowhere
+    None
 }
 
 // The number of devices.

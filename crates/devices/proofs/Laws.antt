@@ -1,5 +1,6 @@
 -- A request of the virtual devices' service: its form, its response, and what it does.
 -- Assumes nothing.
+use Rattle.std.specs.Prelude.{Some}
 use mathlib.Core.Path.{◌≡◌, refl, sym, ap, ◌∙◌}
 use mathlib.Core.Bool.{true, false, not}
 use mathlib.Core.List.{List, []}
@@ -13,7 +14,6 @@ use Rattle.wire.specs.BigEndian.{byte_at, bytes_of, written}
 use Rattle.wire.proofs.Laws.{bytes_low, sets-written}
 use Rattle.model.specs.declared.DeviceOperation.{DeviceOperation}
 use Rattle.model.specs.declared.Event.{Event}
-use Rattle.basics.specs.declared.Found.TheVariants.{At}
 use Rattle.basics.specs.Choice.{◌and◌, every, pick}
 use Rattle.model.specs.Layout.{data_header_bytes, device_at, device_header_bytes, device_reply_bytes, device_service, devices_of, ds_header_bytes, first_device_word, most_devices, output_bytes, with_device}
 use Rattle.model.specs.Journal.{answered_event, device_event}
@@ -112,7 +112,7 @@ module _ (s out : List ℕ) (c handle request : ℕ) (o : DeviceOperation) (i : 
       (record { length' = response-length handle request result status out; notes = n; state = st; output = w })
 
 -- a device found has a place
-pub named-place : (s : List ℕ) (id : ℕ) (name : List ℕ) (i : ℕ) → devices_keep s first_device_word (devices_of s) ≡ true → named_device s id name ≡ At i → i < most_devices
+pub named-place : (s : List ℕ) (id : ℕ) (name : List ℕ) (i : ℕ) → devices_keep s first_device_word (devices_of s) ≡ true → named_device s id name ≡ Some i → i < most_devices
 unfolding named_device
 named-place s id name i e f =
     let h = (first-facts _ _ i f).below in

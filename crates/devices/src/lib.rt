@@ -10,7 +10,6 @@ ghost use Rattle.model.specs.DeviceRequests.{DR-VIO-RES-FAILURE, DR-VIO-RES-NOT-
 ghost use Rattle.model.specs.Devices.{named_device};
 ghost use Rattle.model.specs.Handler.{Handles};
 
-use basics::Found;
 use model::{
     DATA_HEADER_BYTES, DEVICE_HEADER_BYTES, DEVICE_NUMBER_BYTES, DEVICE_REPLY_BYTES,
     DEVICE_SERVICE, DR_VIO_CONFIGURE, DR_VIO_FORCE_UNCONFIG, DR_VIO_RES_BLOCKED,
@@ -215,8 +214,8 @@ fn hear(
 {
     let found = device_list::named_device(state, id, name);
     match found {
-        Found::At { place } => ask(state, channel, handle, request, o, place, out),
-        Found::Nowhere => refuse(channel, handle, request, unknown_result(o.changes), out),
+        Some(place) => ask(state, channel, handle, request, o, place, out),
+        None => refuse(channel, handle, request, unknown_result(o.changes), out),
     }
 }
 

@@ -1,5 +1,6 @@
 -- The effects of the virtual devices' service, as Effects.antt shows of each.
 -- Assumes nothing.
+use Rattle.std.specs.Prelude.{Option, Some, None}
 use Prim.Native.Nat.{ℕ, ◌≤◌, ◌<◌}
 use native.Mathlib.Omega.{arith}
 use mathlib.Core.Path.{◌≡◌, refl}
@@ -7,8 +8,6 @@ use mathlib.Core.Bool.{true}
 use mathlib.Core.List.{List}
 use lib.ListN.{length}
 use Rattle.basics.specs.Choice.{pick, ◌or◌}
-use Rattle.basics.specs.declared.Found.{Found}
-use Rattle.basics.specs.declared.Found.TheVariants.{At, Nowhere}
 use Rattle.model.specs.declared.DeviceOperation.{DeviceOperation}
 use Rattle.model.specs.Layout.{channel_count, device_service, Device, device_at, devices_of, first_device_word, with_device, output_bytes}
 use Rattle.model.specs.Devices.{named_device}
@@ -30,7 +29,7 @@ use Rattle.model.proofs.Replies.{device-short}
 use Rattle.effects.proofs.Effects.{Good, next-number, unchanged, high-changed}
 
 -- a device that is named is one of the state's
-device-less : (s : List ℕ) (id : ℕ) (name : List ℕ) (i : ℕ) → named_device s id name ≡ At i → i < devices_of s
+device-less : (s : List ℕ) (id : ℕ) (name : List ℕ) (i : ℕ) → named_device s id name ≡ Some i → i < devices_of s
 unfolding named_device
 device-less s id name i e = (first-facts (devices_of s) _ i e).below
 
@@ -86,10 +85,10 @@ module _ (s : List ℕ) (g : Given s) (c : ℕ) (h : ReachesDevices s c) where
       device-changed (device_result o (device_at s i)) i (configured_after o (device_at s i)) _ (result-small o (device_at s i)) l (after-flag o (device_at s i) flag old)
       (device-short handle request _ _)
 
-  for-good : (handle request : ℕ) (o : DeviceOperation) (id : ℕ) (name : List ℕ) → o.configured ≤ 1 → (x : Found) → named_device s id name ≡ x → Good s (device_for s c handle request o x)
+  for-good : (handle request : ℕ) (o : DeviceOperation) (id : ℕ) (name : List ℕ) → o.configured ≤ 1 → (x : Option ℕ) → named_device s id name ≡ x → Good s (device_for s c handle request o x)
   unfolding device_for
-  for-good handle request o id name flag (At i) e = asking-good handle request o i flag (device-less s id name i e)
-  for-good handle request o id name flag Nowhere e =
+  for-good handle request o id name flag (Some i) e = asking-good handle request o i flag (device-less s id name i e)
+  for-good handle request o id name flag None e =
       answering-good handle request _ (on-pick (λ (n : ℕ). n < code_end) _ _ _ (λ _. omega arith) (λ _. omega arith))
 
   pub devices-good : (handle : ℕ) (b : List ℕ) → Good s (answered_device s c handle b)

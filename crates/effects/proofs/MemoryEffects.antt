@@ -1,5 +1,6 @@
 -- The memory requests: a splitter over what each does, and their effects, as Effects.antt shows of the others.
 -- Assumes nothing.
+use Rattle.std.specs.Prelude.{Option, Some, None}
 use Prim.Native.Nat.{ℕ, zero, suc, ◌+◌, ◌^◌, ◌≤◌, ◌<◌}
 use native.Mathlib.Omega.{arith}
 use mathlib.Core.Path.{◌≡◌, refl, sym, ap, ◌∙◌}
@@ -10,8 +11,6 @@ use lib.Dec.{ltb, eqb}
 use borrow.Author.Tests.{leb-true, eqb-true, eqb-false, lt-ltb, not-false}
 use Rattle.basics.specs.Choice.{pick, ◌or◌, every}
 use Rattle.model.specs.declared.Event.{Event}
-use Rattle.basics.specs.declared.Found.{Found}
-use Rattle.basics.specs.declared.Found.TheVariants.{At, Nowhere}
 use Rattle.model.specs.declared.Removal.{Removal}
 use Rattle.model.specs.declared.Request.{Request}
 use Rattle.model.specs.declared.Request.TheVariants.{Configure, Unconfigure, Query, Status, Cancel, Malformed}
@@ -118,13 +117,13 @@ module _ (s : List ℕ) (g : Given s) where
       unchanged-one : Configures s (one_unchanged p)
       unchanged-one = unfold one_unchanged in record { moves = r.moves; base = r.base; removal = r.removal; sizes = r.sizes; within = r.within; above = r.above; channels = r.channels }
 
-      go : (x : Found) → named_block p.state addr size ≡ x → Configures s (configure_at p x)
-      go (At i) e =
+      go : (x : Option ℕ) → named_block p.state addr size ≡ x → Configures s (configure_at p x)
+      go (Some i) e =
           unfold configure_at in
           (on-pick (Configures s) _ _ _
           (λ z. configured-another p i r (named-less p.state addr size i e) (eqb-true _ 0 z))
           (λ z. unchanged-one))
-      go Nowhere e = unfold configure_at in failed
+      go None e = unfold configure_at in failed
 
   pub configured-all : (b : List ℕ) (n : ℕ) → Configures s (configured_by s b n)
   unfolding configured_by

@@ -1,5 +1,6 @@
 -- The effects of a message received, as Effects.antt shows of each.
 -- Assumes nothing.
+use Rattle.std.specs.Prelude.{None}
 use Prim.Native.Nat.{ℕ, ◌+◌, ◌≤◌, ◌<◌}
 use native.Mathlib.Omega.{arith}
 use mathlib.Core.Path.{◌≡◌, refl, sym}
@@ -15,7 +16,6 @@ use Rattle.model.specs.Messages.{decoded, decoded_by_type, registered_as, regist
 use Rattle.model.specs.Calls.{data_for, peer_data, heard, hears, receiving, routed}
 use Rattle.basics.specs.Choice.{pick, ◌or◌}
 use Rattle.model.specs.Peers.{peered_as, peer_for}
-use Rattle.basics.specs.declared.Found.TheVariants.{Nowhere}
 use Rattle.model.specs.declared.Route.{Route}
 use Rattle.model.specs.declared.Route.TheVariants.{Memory, Devices, Orders, Host}
 use Rattle.basics.proofs.Choice.{on-pick, on-first, first-nowhere, both}
@@ -82,14 +82,14 @@ module _ (s : List ℕ) (g : Given s) where
   delivered-good c v h l r n =
       unchanged s g (delivered_event c v) [] (delivered-fits _ c (next-number s g) h v l) (λ x. refl) short-empty refl refl (delivered-needs _ _ c v r n)
 
-  data-refused-good : (c handle : ℕ) → c < channel_count → ready_at s c ≡ 1 → registered_for s c handle ≡ Nowhere → Good s (effect (data_refused_event c handle) s (nack handle DS-INV-HDL))
+  data-refused-good : (c handle : ℕ) → c < channel_count → ready_at s c ≡ 1 → registered_for s c handle ≡ None → Good s (effect (data_refused_event c handle) s (nack handle DS-INV-HDL))
   unfolding read_in handle_in settled_block pick fields_of aside ◌or◌
   data-refused-good c handle h ready e =
       unchanged s g (data_refused_event c handle) _ (data-refused-fits _ c (next-number s g) h handle) (λ v. refl) (nack-short handle _) refl refl
       (data-refused-needs _ _ c handle (shows-open s c h ready) (shows-none s g.facts.base c handle h e))
 
   -- no service of ours is registered under the handle
-  peer-or-refused : (c handle : ℕ) → c < channel_count → ready_at s c ≡ 1 → registered_for s c handle ≡ Nowhere → Good s (peer_data s c handle (peer_for s c handle))
+  peer-or-refused : (c handle : ℕ) → c < channel_count → ready_at s c ≡ 1 → registered_for s c handle ≡ None → Good s (peer_data s c handle (peer_for s c handle))
   unfolding peer_data
   peer-or-refused c handle h ready e =
       on-first (λ x. Good s (peer_data s c handle x)) most_ids (peered_as s c handle)

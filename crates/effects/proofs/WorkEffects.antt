@@ -1,5 +1,6 @@
 -- The work step: a splitter over what it does, and its effects, as Effects.antt shows of the others.
 -- Assumes nothing.
+use Rattle.std.specs.Prelude.{Option, Some, None}
 use Prim.Native.Nat.{ℕ, zero, suc, ◌+◌, ◌≤◌, ◌<◌}
 use native.Mathlib.Omega.{arith}
 use mathlib.Core.Path.{◌≡◌, refl, ap, ◌∙◌}
@@ -10,8 +11,6 @@ use lib.Seq.{get_or-set_same, get_or-set_other}
 use lib.Dec.{eqb}
 use borrow.Author.Tests.{ltb-true, lt-ltb, le-leb, leb-false, eqb-true, eqb-false, eq-eqb, ne_eqb}
 use Rattle.basics.specs.Choice.{pick, ◌or◌}
-use Rattle.basics.specs.declared.Found.{Found}
-use Rattle.basics.specs.declared.Found.TheVariants.{At, Nowhere}
 use Rattle.model.specs.declared.Removal.{Removal}
 use Rattle.model.specs.Layout.{blocks_of, Block, block_at, last_of, outstanding_of, is_set, removal_of, with_configured, with_removal, without_removal, most_blocks, most_budget, most_records, output_bytes, no_block}
 use Rattle.model.specs.State.{removal_room, collected_sound, results_sound, result_sound, room_at}
@@ -85,7 +84,7 @@ no_room n room e z = eqb-true n 0 (rw z at e)
 pub record Working (s : List ℕ) (m : Removal) (i : ℕ) : Type 0 where
   pub goes_on : m.cancelled ≡ false
   pub more : m.position < m.count
-  pub named : block_now s m ≡ At i
+  pub named : block_now s m ≡ Some i
   pub movable : (block_at s i).permanent ≡ 0
 
 -- What holds of each thing that a step does holds of the step.
@@ -100,15 +99,15 @@ on_step P s m budget o =
     on-pick P _ _ _ (λ e. o.on_end)
     (λ e. go (or-false _ _ e).0 (leb-false _ _ (or-false _ _ e).1) (block_now s m) refl)
   where
-    go : m.cancelled ≡ false → m.position < m.count → (x : Found) → block_now s m ≡ x → P (works_at s m budget x)
-    go f h (At i) q =
+    go : m.cancelled ≡ false → m.position < m.count → (x : Option ℕ) → block_now s m ≡ x → P (works_at s m budget x)
+    go f h (Some i) q =
         unfold works_at works_on in
         (on-pick P _ _ _
         (λ z.
         let w : Working s m i = record { goes_on = f; more = h; named = q; movable = eqb-true _ 0 z } in
         on-pick P _ _ _ (λ y. o.on_nowork i w (eqb-true _ 0 y)) (λ y. o.on_collect i w (eqb-false _ 0 y)))
         (λ z. o.on_end))
-    go f h Nowhere q = unfold works_at in o.on_end
+    go f h None q = unfold works_at in o.on_end
 
 module _ (s : List ℕ) (g : Given s) (o : is_set (outstanding_of s) ≡ true) where
   facts : RemovalFacts s (last_of s + 1) (removal_of s)
@@ -226,9 +225,9 @@ module _ (s : List ℕ) (g : Given s) (o : is_set (outstanding_of s) ≡ true) w
       on-pick (λ (n : ℕ). n < code_end) _ _ _ (λ e. omega arith)
       (λ e. on-pick (λ (n : ℕ). n < code_end) _ _ _ (λ e₁. omega arith) (λ e₁. failing (block_now s (removal_of s))))
     where
-      failing : (x : Found) → failing_code x < code_end
-      failing (At i) = unfold failing_code in (omega arith)
-      failing Nowhere = unfold failing_code in (omega arith)
+      failing : (x : Option ℕ) → failing_code x < code_end
+      failing (Some i) = unfold failing_code in (omega arith)
+      failing None = unfold failing_code in (omega arith)
 
   end-good : (replied : ℕ) (reply : List ℕ) → replied ≤ 1 → length reply ≤ output_bytes → Turn s (effect (removal_end_event (removal_of s).channel (end_code s (removal_of s)) replied (removal_of s).request) (without_removal s) reply) → Good s (effect (removal_end_event (removal_of s).channel (end_code s (removal_of s)) replied (removal_of s).request) (without_removal s) reply)
   unfolding fields_of read_in handle_in settled_block pick

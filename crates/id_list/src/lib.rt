@@ -7,7 +7,6 @@ ghost use Rattle.model.specs.Layout.{first_id_word, id_at, ids_of, id_words, mos
 ghost use Rattle.model.specs.Peers.{accepted_ids, id_apart, id_keeps, ids_keep, listed_id};
 ghost use Rattle.id_list.specs.Hashes.{HashesStand, apart_at, folded, hash_in, hashes_apart};
 
-use basics::Found;
 use model::{
     FIRST_ID_WORD, HIGHEST_MINOR, ID_BYTES_PLACE, ID_COUNT_WORD, ID_MINOR_PLACE, ID_PLACE,
     ID_WORDS, MOST_ID_BYTES, MOST_IDS, State,
@@ -188,7 +187,7 @@ pub fn state_ids_keep(state: &State) -> bool
 }
 
 // The place of the state's id that has the bytes of `id`, if there is one.
-pub fn listed_id(state: &State, id: &[u8]) -> Found
+pub fn listed_id(state: &State, id: &[u8]) -> Option<usize>
     requires { ids_keep state.now first_id_word (ids_of state.now) ≡ true }
     ensures { result ≡ listed_id state.now id.now }
 {
@@ -198,11 +197,11 @@ pub fn listed_id(state: &State, id: &[u8]) -> Found
         let d = FIRST_ID_WORD + p * ID_WORDS;
         let n = state[d + ID_BYTES_PLACE] as usize;
         if names::has_name(state, d + ID_PLACE, n, id) {
-            return Found::At { place: p };
+            return Some(p);
         }
         p += 1;
     }
-    Found::Nowhere
+    None
 }
 
 // The number of ids.

@@ -1,5 +1,6 @@
 -- A removal's numbers, the fields of STATUS's record, and what each answer does, from what its parts do.
 -- Assumes nothing.
+use Rattle.std.specs.Prelude.{Option, Some, None}
 use mathlib.Core.Path.{◌≡◌, refl, sym, ◌∙◌, subst}
 use mathlib.Core.Bool.{Bool, true, false, not}
 use mathlib.Core.List.{List, []}
@@ -12,8 +13,6 @@ use Rattle.wire.specs.BigEndian.{bytes_of, written}
 use Rattle.wire.proofs.Laws.{sets-whole}
 use Rattle.basics.specs.Choice.{pick, ◌and◌, joined}
 use Rattle.model.specs.declared.Event.{Event}
-use Rattle.basics.specs.declared.Found.{Found}
-use Rattle.basics.specs.declared.Found.TheVariants.{At, Nowhere}
 use Rattle.model.specs.declared.Removal.{Removal}
 use Rattle.model.specs.declared.Request.{Request}
 use Rattle.model.specs.declared.Request.TheVariants.{Configure, Unconfigure, Query, Status, Cancel, Malformed}
@@ -44,13 +43,13 @@ collected-fits collected room =
 room_fits : (s : List ℕ) (addr size : ℕ) → sound s ≡ true → room_of s addr size ≤ most_pages
 room_fits s addr size e = go (named_block s addr size) refl
   where
-    go : (x : Found) → named_block s addr size ≡ x → room_at s x ≤ most_pages
-    go (At i) q =
+    go : (x : Option ℕ) → named_block s addr size ≡ x → room_at s x ≤ most_pages
+    go (Some i) q =
         unfold room_at in
         (on-pick (λ (n : ℕ). n ≤ most_pages) _ _ _
         (λ t. (sound-block s i e (named-less s addr size i q)).few)
         (λ _. omega arith))
-    go Nowhere q = unfold room_at in (omega arith)
+    go None q = unfold room_at in (omega arith)
 
 removal-room-fits : (s : List ℕ) (m : Removal) → sound s ≡ true → removal_room s m ≤ most_pages
 unfolding removal_room

@@ -1,5 +1,6 @@
 -- What is claimed of the search by halves holds.
 -- Assumes nothing.
+use Rattle.std.specs.Prelude.{None}
 use Prim.Native.Nat.{ℕ, zero, suc, ◌+◌, ◌*◌, ◌/◌, ◌≤◌, ◌<◌}
 use mathlib.Core.Path.{◌≡◌, refl, sym, ap, ap₂, ◌∙◌, subst}
 use mathlib.Core.Bool.{Bool, true, false}
@@ -14,7 +15,6 @@ use lib.Seq.{get_or-take}
 use lib.Dec.{ltb, eqb}
 use borrow.Author.Tests.{leb-true, eqb-true, eqb-false, ltb-true, ltb-false, eq-eqb, ne_eqb, lt-ltb, le-ltb}
 use Rattle.basics.specs.Choice.{pick, ◌and◌, halvings, halvings_within, first_below}
-use Rattle.basics.specs.declared.Found.TheVariants.{Nowhere}
 use Rattle.model.specs.declared.Searched.{Searched}
 use Rattle.model.specs.Layout.{Block, block_in, block_at, blocks_of, block_words, block_count_word, pages_place, most_blocks, first_block_word, with_configured}
 use Rattle.model.specs.Blocks.{size_of, block_keeps, end_before, blocks_keep, accepted_blocks, names, named_in}
@@ -129,7 +129,7 @@ module _ (b : ℕ → Block) (addr size : ℕ) where
 
     -- none is named where none below low is, and none from low on; where a base is addr, its block decides; where it is another one, so
     -- are those on its far side
-    nobody : (low : ℕ) → ((j : ℕ) → j < low → names addr size (b j) ≡ false) → ((j : ℕ) → low ≤ j → j < n → names addr size (b j) ≡ false) → Nowhere ≡ first_below n (λ i. names addr size (b i))
+    nobody : (low : ℕ) → ((j : ℕ) → j < low → names addr size (b j) ≡ false) → ((j : ℕ) → low ≤ j → j < n → names addr size (b j) ≡ false) → None ≡ first_below n (λ i. names addr size (b i))
     nobody low lo hi = sym (first-nowhere n _ (λ j h. by_side j h (ltb j low) refl))
       where
         by_side : (j : ℕ) → j < n → (x : Bool) → ltb j low ≡ x → names addr size (b j) ≡ false
@@ -175,7 +175,7 @@ module _ (b : ℕ → Block) (addr size : ℕ) where
       (enough m (above_middle (suc m)) (middle_of low (suc m) + 1) (above_middle (suc m)) (omega arith) (omega arith))
       (enough m (below_middle (suc m)) low (below_middle (suc m)) (omega arith) (omega arith))
 
-  pub none_left_lem : (low m : ℕ) → m ≡ 0 → search_left b addr size low m ≡ found_as Nowhere
+  pub none_left_lem : (low m : ℕ) → m ≡ 0 → search_left b addr size low m ≡ found_as None
   unfolding search_within
   none_left_lem low m e = rw e
 

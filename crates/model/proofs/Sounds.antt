@@ -1,5 +1,6 @@
 -- Each change of the words keeps what a sound state has.
 -- Assumes nothing.
+use Rattle.std.specs.Prelude.{Option, Some, None}
 use mathlib.Core.Path.{◌≡◌, refl, sym, ap, ◌∙◌}
 use mathlib.Core.Bool.{Bool, true, false}
 use mathlib.Core.List.{List, [], ◌∷◌}
@@ -20,14 +21,12 @@ use Rattle.model.specs.Blocks.{end_of, block_keeps, end_before, names, named_blo
 use Rattle.model.specs.State.{collected_sound, service_sound, room_of, removal_room, orders_sound, sound, room_at}
 use Rattle.model.specs.Reading.{flagged}
 use Rattle.basics.proofs.Choice.{clash, first-same, first-facts}
-use Rattle.basics.specs.declared.Found.{Found}
-use Rattle.basics.specs.declared.Found.TheVariants.{At, Nowhere}
 use Rattle.model.proofs.Words.{Agree, Arrays, service-frame, service-word, configured-frame, counts-frame, last-counts, held-counts, channel-frame, channel-ready, channel-zero, removal-frame, removal-same, removal-back, head-back, without-frame, number-frame, number-above}
 use Rattle.model.proofs.View.{block_same, flag-other, flag-here}
 use Rattle.model.proofs.Rules.{Base, Apart, block-rules, block_last, Removes, RemovalFacts, service-idle, Sound, sound-facts, sound-test}
 
 -- a block that a pair names is one of the state's
-pub named-less : (s : List ℕ) (addr size i : ℕ) → named_block s addr size ≡ At i → i < blocks_of s
+pub named-less : (s : List ℕ) (addr size i : ℕ) → named_block s addr size ≡ Some i → i < blocks_of s
 unfolding named_block
 named-less s addr size i e = (first-facts (blocks_of s) _ i e).below
 
@@ -54,9 +53,9 @@ module _ (s t : List ℕ) (few : blocks_of s ≤ most_blocks) (a : Agree s t blo
   room-same : (addr size : ℕ) → room_of t addr size ≡ room_of s addr size
   room-same addr size = rw (block-named addr size) (go (named_block s addr size) refl)
     where
-      go : (x : Found) → named_block s addr size ≡ x → room_at t x ≡ room_at s x
-      go (At i) e = unfold room_at in rw (at_same i (omega (arith, few, named-less s addr size i e)))
-      go Nowhere e = unfold room_at in refl
+      go : (x : Option ℕ) → named_block s addr size ≡ x → room_at t x ≡ room_at s x
+      go (Some i) e = unfold room_at in rw (at_same i (omega (arith, few, named-less s addr size i e)))
+      go None e = unfold room_at in refl
 
   pub removal-room : (m : Removal) → removal_room t m ≡ removal_room s m
   unfolding removal_room

@@ -1,8 +1,7 @@
 -- "Blocks: 0 to 16, given at setup", by 02, ticket 8, to 64: the rules of a block list, the lists given at setup, its state, and the block that a pair names.
 -- Assumes nothing.
-use Rattle.std.specs.Prelude.{ℕ, zero, suc, ◌+◌, ◌*◌, ◌/◌, ◌%◌, Bool, List, [], length, set, replicate, leb, eqb}
+use Rattle.std.specs.Prelude.{ℕ, zero, suc, ◌+◌, ◌*◌, ◌/◌, ◌%◌, Bool, List, [], length, set, replicate, leb, eqb, Option}
 use Rattle.std.proofs.lemmas.List.Edits.{sets}
-use Rattle.basics.specs.declared.Found.{Found}
 use Rattle.basics.specs.Choice.{pick, ◌and◌, every, first_below}
 use Rattle.model.specs.Layout.{Block, block_in, blocks_of, most_blocks, block_words, state_words, block_count_word, first_block_word, device_words, device_count_word, id_words, id_count_word}
 use Rattle.model.specs.Devices.{accepted_devices}
@@ -80,8 +79,8 @@ unfoldable pub names : ℕ → ℕ → Block → Bool
 names addr size b = eqb b.base addr and eqb (size_of b) size
 
 -- the block that the pair names, if there is one: of the n blocks whose words stand in l from at on, and of the state's
-abbrev pub named_in : List ℕ → ℕ → ℕ → ℕ → ℕ → Found
+abbrev pub named_in : List ℕ → ℕ → ℕ → ℕ → ℕ → Option ℕ
 named_in l at n addr size = first_below n (λ i. names addr size (block_in l at i))
 
-unfoldable pub named_block : List ℕ → ℕ → ℕ → Found
+unfoldable pub named_block : List ℕ → ℕ → ℕ → Option ℕ
 named_block s addr size = named_in s first_block_word (blocks_of s) addr size

@@ -1,10 +1,8 @@
 -- "Calls": what each call returns and leaves, for every state, journal and argument.
 -- Assumes nothing.
-use Rattle.std.specs.Prelude.{ℕ, ◌+◌, ◌-◌, ◌*◌, ◌/◌, min, Bool, true, false, not, List, [], ◌∷◌, ◌++◌, length, drop, leb, ltb, eqb}
+use Rattle.std.specs.Prelude.{ℕ, ◌+◌, ◌-◌, ◌*◌, ◌/◌, min, Bool, true, false, not, List, [], ◌∷◌, ◌++◌, length, drop, leb, ltb, eqb, Option, Some, None}
 use Rattle.wire.specs.BigEndian.{written}
 use Rattle.basics.specs.Choice.{pick, ◌and◌, ◌or◌, is_found}
-use Rattle.basics.specs.declared.Found.{Found}
-use Rattle.basics.specs.declared.Found.TheVariants.{At, Nowhere}
 use Rattle.model.specs.declared.Message.{Message}
 use Rattle.model.specs.declared.Message.TheVariants.{InitReq, RegReq, RegAck, RegNack, Unreg, UnregAck, UnregNack, Data, Nack, Bad}
 use Rattle.model.specs.declared.Route.{Route}
@@ -64,9 +62,9 @@ accepted s j out pages e = record {
 }
 
 -- 02, ticket 7: "data on a live peer handle goes to the host with kind 24". "Otherwise the reply is NACK with the handle and result 3."
-unfoldable pub peer_data : List ℕ → ℕ → ℕ → Found → Effect
-peer_data s c handle (At p) = effect (peer_data_event c) s []
-peer_data s c handle Nowhere = effect (data_refused_event c handle) s (nack handle DS-INV-HDL)
+unfoldable pub peer_data : List ℕ → ℕ → ℕ → Option ℕ → Effect
+peer_data s c handle (Some p) = effect (peer_data_event c) s []
+peer_data s c handle None = effect (data_refused_event c handle) s (nack handle DS-INV-HDL)
 
 -- the data for service v, by where it goes
 unfoldable pub routed : List ℕ → ℕ → ℕ → List ℕ → ℕ → Route → Effect
@@ -76,9 +74,9 @@ routed s c handle payload v Orders = answered_order s c handle v payload
 routed s c handle payload v Host = effect (delivered_event c v) s []
 
 -- "DATA whose handle is registered on this channel reaches that service"
-unfoldable pub data_for : List ℕ → ℕ → ℕ → List ℕ → Found → Effect
-data_for s c handle payload (At v) = routed s c handle payload v (route v)
-data_for s c handle payload Nowhere = peer_data s c handle (peer_for s c handle)
+unfoldable pub data_for : List ℕ → ℕ → ℕ → List ℕ → Option ℕ → Effect
+data_for s c handle payload (Some v) = routed s c handle payload v (route v)
+data_for s c handle payload None = peer_data s c handle (peer_for s c handle)
 
 -- what a message does on a channel that hears it; none hears `Bad`
 unfoldable pub heard : List ℕ → ℕ → List ℕ → Message → Effect
@@ -211,9 +209,9 @@ is_host Devices = false
 is_host Orders = false
 is_host Host = true
 
-unfoldable pub goes_to_host : Found → Bool
-goes_to_host (At v) = is_host (route v)
-goes_to_host Nowhere = false
+unfoldable pub goes_to_host : Option ℕ → Bool
+goes_to_host (Some v) = is_host (route v)
+goes_to_host None = false
 
 -- 02, ticket 7: "and show gives it from byte 16"
 abbrev pub shown_to : List ℕ → ℕ → ℕ → Bool

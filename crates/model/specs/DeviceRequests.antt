@@ -1,10 +1,8 @@
 -- 02, ticket 1, "Answer `dr-vio` inside, by source document 000": the form of a request, and what each does.
 -- Assumes nothing.
-use Rattle.std.specs.Prelude.{ℕ, ◌+◌, ◌-◌, Bool, true, false, not, List, [], ◌∷◌, ◌++◌, length, drop, ltb, eqb}
+use Rattle.std.specs.Prelude.{ℕ, ◌+◌, ◌-◌, Bool, true, false, not, List, [], ◌∷◌, ◌++◌, length, drop, ltb, eqb, Option, Some, None}
 use Rattle.wire.specs.BigEndian.{byte_at, number_at, bytes_of}
 use Rattle.basics.specs.Choice.{pick, ◌and◌, every}
-use Rattle.basics.specs.declared.Found.{Found}
-use Rattle.basics.specs.declared.Found.TheVariants.{At, Nowhere}
 use Rattle.model.specs.declared.DeviceOperation.{DeviceOperation}
 use Rattle.model.specs.Layout.{device_service, device_number_bytes, device_header_bytes, Device, device_at, with_device}
 use Rattle.model.specs.Devices.{named_device}
@@ -118,9 +116,9 @@ asking_device s c handle request o i =
     (device_reply handle request (device_result o (device_at s i)) (device_status (configured_after o (device_at s i))))
 
 -- "Unknown: NOT_IN_MD with status NOT_PRESENT for changes, FAILURE with status 0 for a status request."
-unfoldable pub device_for : List ℕ → ℕ → ℕ → ℕ → DeviceOperation → Found → Effect
-device_for s c handle request o (At i) = asking_device s c handle request o i
-device_for s c handle request o Nowhere =
+unfoldable pub device_for : List ℕ → ℕ → ℕ → ℕ → DeviceOperation → Option ℕ → Effect
+device_for s c handle request o (Some i) = asking_device s c handle request o i
+device_for s c handle request o None =
     answering_device s c handle request (pick o.changes DR-VIO-RES-NOT-IN-MD DR-VIO-RES-FAILURE)
 
 -- "An unknown message type, or a name without its one zero at the end, is FAILURE, status 0"

@@ -1,8 +1,7 @@
 -- 02, ticket 1, "up to 32 devices given at setup": the rules of a device list, and the device that an id and a name name.
 -- Assumes nothing.
-use Rattle.std.specs.Prelude.{ℕ, ◌+◌, ◌-◌, ◌/◌, ◌%◌, Bool, not, List, length, leb, eqb}
+use Rattle.std.specs.Prelude.{ℕ, ◌+◌, ◌-◌, ◌/◌, ◌%◌, Bool, not, List, length, leb, eqb, Option}
 use Rattle.wire.specs.BigEndian.{byte_at}
-use Rattle.basics.specs.declared.Found.{Found}
 use Rattle.basics.specs.Choice.{◌and◌, every, first_below}
 use Rattle.model.specs.Layout.{Device, device_in, name_bytes_in, name_byte_in, devices_of, most_devices, most_name_bytes, word_bytes, device_words, first_device_word}
 
@@ -48,5 +47,5 @@ unfoldable pub accepted_devices : List ℕ → Bool
 accepted_devices l = eqb (length l % device_words) 0 and devices_keep l 0 (length l / device_words)
 
 -- the state's device that an id and a name name, if there is one
-unfoldable pub named_device : List ℕ → ℕ → List ℕ → Found
+unfoldable pub named_device : List ℕ → ℕ → List ℕ → Option ℕ
 named_device s id name = first_below (devices_of s) (λ i. is_device id name (device_in s first_device_word i))

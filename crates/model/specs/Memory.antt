@@ -1,10 +1,8 @@
 -- "Memory messages (service 0)": the form of a request, and what each does.
 -- Assumes nothing.
-use Rattle.std.specs.Prelude.{ℕ, zero, suc, ◌+◌, ◌-◌, ◌*◌, ◌%◌, ◌^◌, Bool, true, false, not, List, [], ◌∷◌, ◌++◌, length, get_or, replicate, leb, ltb, eqb}
+use Rattle.std.specs.Prelude.{ℕ, zero, suc, ◌+◌, ◌-◌, ◌*◌, ◌%◌, ◌^◌, Bool, true, false, not, List, [], ◌∷◌, ◌++◌, length, get_or, replicate, leb, ltb, eqb, Option, Some, None}
 use Rattle.wire.specs.BigEndian.{number_at, bytes_of}
 use Rattle.basics.specs.Choice.{pick, ◌and◌, ◌or◌, tabulate, joined}
-use Rattle.basics.specs.declared.Found.{Found}
-use Rattle.basics.specs.declared.Found.TheVariants.{At, Nowhere}
 use Rattle.model.specs.declared.Removal.{Removal}
 use Rattle.model.specs.declared.Request.{Request}
 use Rattle.model.specs.declared.Request.TheVariants.{Configure, Unconfigure, Query, Status, Cancel, Malformed}
@@ -100,9 +98,9 @@ memory_reply handle type argument request records =
     ds_data handle (bytes_of 4 type ++ bytes_of 4 argument ++ bytes_of 8 request ++ records)
 
 -- "status after the request (0 unknown, 1 unconfigured, 2 configured)"
-unfoldable pub status_at : List ℕ → Found → ℕ
-status_at s (At i) = pick (eqb (block_at s i).configured 1) 2 1
-status_at s Nowhere = 0
+unfoldable pub status_at : List ℕ → Option ℕ → ℕ
+status_at s (Some i) = pick (eqb (block_at s i).configured 1) 2 1
+status_at s None = 0
 
 abbrev pub status_of : List ℕ → ℕ → ℕ → ℕ
 status_of s addr size = status_at s (named_block s addr size)
@@ -113,13 +111,13 @@ result_record s addr size result =
     bytes_of 8 addr ++ bytes_of 8 size ++ bytes_of 4 result ++ bytes_of 4 (status_of s addr size) ++ bytes_of 4 0
 
 -- the permanent bytes of the block that a pair names, and the first permanent address; "An unknown block counts as wholly permanent"
-unfoldable pub permanent_bytes : List ℕ → ℕ → Found → ℕ
-permanent_bytes s size (At i) = (block_at s i).permanent * page_size
-permanent_bytes s size Nowhere = size
+unfoldable pub permanent_bytes : List ℕ → ℕ → Option ℕ → ℕ
+permanent_bytes s size (Some i) = (block_at s i).permanent * page_size
+permanent_bytes s size None = size
 
-unfoldable pub permanent_first : List ℕ → ℕ → Found → ℕ
-permanent_first s addr (At i) = (block_at s i).base + (block_at s i).first * page_size
-permanent_first s addr Nowhere = addr
+unfoldable pub permanent_first : List ℕ → ℕ → Option ℕ → ℕ
+permanent_first s addr (Some i) = (block_at s i).base + (block_at s i).first * page_size
+permanent_first s addr None = addr
 
 -- "all three 0 if none. .. size, addr, addr + size − 1 wrapped at 2^64; size 0 gives three zeros."
 unfoldable pub permanent_range : ℕ → ℕ → List ℕ
@@ -182,9 +180,9 @@ one_unchanged p = record {
 }
 
 -- "unconfigured gives OK (0) and configures, configured gives NOWORK (4), unknown gives FAILURE (1)"
-unfoldable pub configure_at : Progress → Found → Progress
-configure_at p (At i) = pick (eqb (block_at p.state i).configured 0) (one_configured p i) (one_unchanged p)
-configure_at p Nowhere = one_failed p
+unfoldable pub configure_at : Progress → Option ℕ → Progress
+configure_at p (Some i) = pick (eqb (block_at p.state i).configured 0) (one_configured p i) (one_unchanged p)
+configure_at p None = one_failed p
 
 -- "and so does every record after it"
 unfoldable pub configure_one : Progress → ℕ → ℕ → Progress

@@ -1,10 +1,8 @@
 -- "DS messages": the service table, the messages' layouts, when a message is well formed, and what each does.
 -- Assumes nothing.
-use Rattle.std.specs.Prelude.{ℕ, ◌+◌, ◌-◌, min, Bool, false, not, List, [], ◌∷◌, ◌++◌, length, get_or, drop, leb, ltb, eqb}
+use Rattle.std.specs.Prelude.{ℕ, ◌+◌, ◌-◌, min, Bool, false, not, List, [], ◌∷◌, ◌++◌, length, get_or, drop, leb, ltb, eqb, Option, Some, None}
 use Rattle.wire.specs.BigEndian.{byte_at, number_at, bytes_of}
 use Rattle.basics.specs.Choice.{pick, ◌and◌, ◌or◌, every, first_below, is_found}
-use Rattle.basics.specs.declared.Found.{Found}
-use Rattle.basics.specs.declared.Found.TheVariants.{At, Nowhere}
 use Rattle.model.specs.declared.Route.{Route}
 use Rattle.model.specs.declared.Route.TheVariants.{Memory, Devices, Orders, Host}
 use Rattle.model.specs.declared.Message.{Message}
@@ -223,13 +221,13 @@ abbrev pub live_as : List ℕ → ℕ → ℕ → ℕ → Bool
 live_as s c h v = not (eqb (stage_at s (place_of c v)) stage_idle) and eqb (handle_at s (place_of c v)) h
 
 -- the channel's service that is, if there is one
-abbrev pub offered_for : List ℕ → ℕ → ℕ → Found
+abbrev pub offered_for : List ℕ → ℕ → ℕ → Option ℕ
 offered_for s c h = first_below service_count (offered_as s c h)
 
-abbrev pub registered_for : List ℕ → ℕ → ℕ → Found
+abbrev pub registered_for : List ℕ → ℕ → ℕ → Option ℕ
 registered_for s c h = first_below service_count (registered_as s c h)
 
-abbrev pub live_for : List ℕ → ℕ → ℕ → Found
+abbrev pub live_for : List ℕ → ℕ → ℕ → Option ℕ
 live_for s c h = first_below service_count (live_as s c h)
 
 -- a service's change of stage; an idle one has no handle and no minor
@@ -263,27 +261,27 @@ unfoldable pub numbers_anew : List ℕ → ℕ → ℕ → List ℕ
 numbers_anew s c v = pick (eqb v memory_service) (with_number s c 0 0) s
 
 -- "REG_ACK for an offered handle registers it with the lower of the two minors .. Any other of these is only noted."
-unfoldable pub acknowledged : List ℕ → ℕ → ℕ → ℕ → Found → Effect
-acknowledged s c handle minor (At v) =
+unfoldable pub acknowledged : List ℕ → ℕ → ℕ → ℕ → Option ℕ → Effect
+acknowledged s c handle minor (Some v) =
     effect (registered_event c v (min (service_of v).minor minor) handle)
     (with_registered (numbers_anew s c v) c v handle (min (service_of v).minor minor))
     []
-acknowledged s c handle minor Nowhere = noting s c DS-REG-ACK []
+acknowledged s c handle minor None = noting s c DS-REG-ACK []
 
 -- "REG_NACK for an offered handle makes it idle."
-unfoldable pub not_acknowledged : List ℕ → ℕ → Found → Effect
-not_acknowledged s c (At v) = effect (offer_refused_event c v) (with_idle s c v) []
-not_acknowledged s c Nowhere = noting s c DS-REG-NACK []
+unfoldable pub not_acknowledged : List ℕ → ℕ → Option ℕ → Effect
+not_acknowledged s c (Some v) = effect (offer_refused_event c v) (with_idle s c v) []
+not_acknowledged s c None = noting s c DS-REG-NACK []
 
 -- 02, ticket 7. The peer's own registration that has the handle, if there is one, is ended like one of ours.
-unfoldable pub peer_unregistered : List ℕ → ℕ → ℕ → Found → Effect
-peer_unregistered s c handle (At p) = effect (peer_ended_event c handle) (without_peer s c p) (unreg_ack handle)
-peer_unregistered s c handle Nowhere = noting s c DS-UNREG (unreg_nack handle)
+unfoldable pub peer_unregistered : List ℕ → ℕ → ℕ → Option ℕ → Effect
+peer_unregistered s c handle (Some p) = effect (peer_ended_event c handle) (without_peer s c p) (unreg_ack handle)
+peer_unregistered s c handle None = noting s c DS-UNREG (unreg_nack handle)
 
 -- "UNREG from the peer for a live handle (offered or registered) does so and replies UNREG_ACK, else UNREG_NACK."
-unfoldable pub unregistered : List ℕ → ℕ → ℕ → Found → Effect
-unregistered s c handle (At v) = effect (service_ended_event c v) (with_idle s c v) (unreg_ack handle)
-unregistered s c handle Nowhere = peer_unregistered s c handle (peer_for s c handle)
+unfoldable pub unregistered : List ℕ → ℕ → ℕ → Option ℕ → Effect
+unregistered s c handle (Some v) = effect (service_ended_event c v) (with_idle s c v) (unreg_ack handle)
+unregistered s c handle None = peer_unregistered s c handle (peer_for s c handle)
 
 -- A REG_REQ of the peer, m: svc_handle, major_vers, minor_vers, svc_id.
 abbrev pub reg_handle : List ℕ → ℕ
@@ -303,9 +301,9 @@ abbrev pub not_registering : List ℕ → ℕ → List ℕ → ℕ → ℕ → E
 not_registering s c m result major = noting s c DS-REG-REQ (reg_nack (reg_handle m) result major)
 
 -- the id at this place is registered there by the peer
-unfoldable pub id_taken : List ℕ → ℕ → Found → Bool
-id_taken s c (At p) = is_peered s c p
-id_taken s c Nowhere = false
+unfoldable pub id_taken : List ℕ → ℕ → Option ℕ → Bool
+id_taken s c (Some p) = is_peered s c p
+id_taken s c None = false
 
 -- "A handle with the top bit, a handle or id of a peer registration on its channel, or a ninth one"
 unfoldable pub is_duplicate : List ℕ → ℕ → List ℕ → Bool
@@ -316,14 +314,14 @@ is_duplicate s c m =
     or leb most_peers (peers_below s c most_ids)
 
 -- "The right major is acknowledged with the lower minor; a higher major is told ours; a lower one gets 0, as does an unknown id."
-unfoldable pub registering_at : List ℕ → ℕ → List ℕ → Found → Effect
-registering_at s c m (At p) =
+unfoldable pub registering_at : List ℕ → ℕ → List ℕ → Option ℕ → Effect
+registering_at s c m (Some p) =
     pick (eqb (reg_major m) (id_at s p).major)
     (effect (peer_registered_event c p (min (id_at s p).minor (reg_minor m)) (reg_handle m))
     (with_peer s c p (reg_handle m) (min (id_at s p).minor (reg_minor m)))
     (reg_ack (reg_handle m) (min (id_at s p).minor (reg_minor m))))
     (not_registering s c m DS-REG-VER-NACK (pick (ltb (id_at s p).major (reg_major m)) (id_at s p).major 0))
-registering_at s c m Nowhere = not_registering s c m DS-REG-VER-NACK 0
+registering_at s c m None = not_registering s c m DS-REG-VER-NACK 0
 
 -- ".. is DS_REG_DUP with major 0, tested first."
 unfoldable pub registering : List ℕ → ℕ → List ℕ → Effect

@@ -1,7 +1,6 @@
 -- 02, ticket 7, "ids .. that the host lists at setup": the rules of an id list, and of a channel's peer registrations.
 -- Assumes nothing.
-use Rattle.std.specs.Prelude.{ℕ, zero, suc, ◌+◌, ◌-◌, ◌/◌, ◌%◌, Bool, not, List, length, leb, ltb, eqb}
-use Rattle.basics.specs.declared.Found.{Found}
+use Rattle.std.specs.Prelude.{ℕ, zero, suc, ◌+◌, ◌-◌, ◌/◌, ◌%◌, Bool, not, List, length, leb, ltb, eqb, Option}
 use Rattle.basics.specs.Choice.{◌and◌, ◌or◌, every, first_below}
 use Rattle.model.specs.Layout.{id_in, id_bytes_in, id_byte_in, ids_of, id_at, peered_at, peer_handle_at, peer_minor_at, most_ids, most_id_bytes, most_peers, highest_minor, id_words}
 use Rattle.model.specs.Devices.{padding_bytes, same_name}
@@ -36,7 +35,7 @@ unfoldable pub accepted_ids : List ℕ → Bool
 accepted_ids l = eqb (length l % id_words) 0 and ids_keep l 0 (length l / id_words)
 
 -- the place of the listed id that has these bytes, if there is one
-unfoldable pub listed_id : List ℕ → List ℕ → Found
+unfoldable pub listed_id : List ℕ → List ℕ → Option ℕ
 listed_id s bytes = first_below (ids_of s) (λ p. same_name (id_at s p).bytes bytes)
 
 -- the peer has id p registered on channel c; the one that it has under a handle, if there is one
@@ -46,7 +45,7 @@ is_peered s c p = eqb (peered_at s c p) 1
 abbrev pub peered_as : List ℕ → ℕ → ℕ → ℕ → Bool
 peered_as s c handle p = is_peered s c p and eqb (peer_handle_at s c p) handle
 
-abbrev pub peer_for : List ℕ → ℕ → ℕ → Found
+abbrev pub peer_for : List ℕ → ℕ → ℕ → Option ℕ
 peer_for s c handle = first_below most_ids (peered_as s c handle)
 
 -- how many registrations a channel has

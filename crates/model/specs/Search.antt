@@ -1,10 +1,8 @@
 -- "look for each record by halves" (02, ticket 5): the search, the blocks that it looks at, and what is claimed of both.
 -- Assumes nothing.
-use Rattle.std.specs.Prelude.{ℕ, zero, suc, ◌+◌, ◌-◌, ◌/◌, ◌≤◌, ◌<◌, ◌≡◌, true, length, take, get_or, ltb, eqb}
+use Rattle.std.specs.Prelude.{ℕ, zero, suc, ◌+◌, ◌-◌, ◌/◌, ◌≤◌, ◌<◌, ◌≡◌, true, length, take, get_or, ltb, eqb, Option, Some, None}
 use mathlib.Core.List.{List, [], ◌∷◌, Memᴰ}
 use Rattle.basics.specs.Choice.{pick, halvings}
-use Rattle.basics.specs.declared.Found.{Found}
-use Rattle.basics.specs.declared.Found.TheVariants.{At, Nowhere}
 use Rattle.model.specs.declared.Searched.{Searched}
 use Rattle.model.specs.Layout.{Block, block_in, block_at, blocks_of, block_words, most_blocks, first_block_word}
 use Rattle.model.specs.Blocks.{size_of, most_pages, blocks_keep, accepted_blocks, named_in}
@@ -21,19 +19,19 @@ middle_of low m = low + below_middle m
 
 -- what a search gives: the block that the pair names, if there is one, and "which blocks were looked at, in order"
 pub record Search : Type 0 where
-  pub found : Found
+  pub found : Option ℕ
   pub looked : List ℕ
 
 -- none was looked at yet; block k was looked at first
-abbrev pub found_as : Found → Search
+abbrev pub found_as : Option ℕ → Search
 found_as x = record { found = x; looked = [] }
 
 abbrev pub looked_first : ℕ → Search → Search
 looked_first k r = record { found = r.found; looked = k ∷ r.looked }
 
 -- block x, at place k, whose base is addr: the pair names it if its size is all of it
-unfoldable pub found_there : Block → ℕ → ℕ → Found
-found_there x k size = pick (eqb (size_of x) size) (At k) Nowhere
+unfoldable pub found_there : Block → ℕ → ℕ → Option ℕ
+found_there x k size = pick (eqb (size_of x) size) (Some k) None
 
 -- The turn in which block x, at place k, is looked at. The search ends there if its base is addr; if its base is below addr, it goes on
 -- among the blocks above it, else among those below it.
@@ -46,8 +44,8 @@ turn_at x k addr size above below =
 
 -- The search for a pair among the m blocks b left from low on. Each turn leaves fewer, so that m turns are enough (`each_turn` below).
 unfoldable pub search_within : (ℕ → Block) → ℕ → ℕ → ℕ → ℕ → ℕ → Search
-search_within b addr size zero low m = found_as Nowhere
-search_within b addr size (suc turns) low zero = found_as Nowhere
+search_within b addr size zero low m = found_as None
+search_within b addr size (suc turns) low zero = found_as None
 search_within b addr size (suc turns) low (suc m) =
     turn_at (b (middle_of low (suc m))) (middle_of low (suc m)) addr size
     (search_within b addr size turns (middle_of low (suc m) + 1) (above_middle (suc m)))
@@ -97,7 +95,7 @@ pub record SearchHolds : Type 0 where
       (search_left b addr size (low + (m - 1) / 2 + 1) (m / 2))
       (search_left b addr size low ((m - 1) / 2))
   -- and where none is left, it ends without one
-  pub none_left : (b : ℕ → Block) (addr size low : ℕ) → search_left b addr size low 0 ≡ found_as Nowhere
+  pub none_left : (b : ℕ → Block) (addr size low : ℕ) → search_left b addr size low 0 ≡ found_as None
   -- "Every answer stays.": the search finds what 01 calls the block that the pair names
   pub stays :
       (l : List ℕ) (at n addr size : ℕ) →

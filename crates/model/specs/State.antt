@@ -6,10 +6,8 @@
 -- the marks' bits past place 15, the handle and minor of an id that is not registered, the delay without a shutdown's order) are free, and so are the words of request numbers, in which any
 -- number means something.
 -- Assumes nothing.
-use Rattle.std.specs.Prelude.{ℕ, ◌+◌, ◌/◌, Bool, not, List, get_or, ltb, leb, eqb}
+use Rattle.std.specs.Prelude.{ℕ, ◌+◌, ◌/◌, Bool, not, List, get_or, ltb, leb, eqb, Option, Some, None}
 use Rattle.basics.specs.Choice.{pick, ◌and◌, ◌or◌, every}
-use Rattle.basics.specs.declared.Found.{Found}
-use Rattle.basics.specs.declared.Found.TheVariants.{At, Nowhere}
 use Rattle.model.specs.declared.Removal.{Removal}
 use Rattle.model.specs.Layout.{channel_count, service_count, place_count, most_records, most_held, highest_number, highest_minor, stage_idle, stage_offered, stage_registered, ready_at, stage_at, handle_at, minor_at, first_block_word, blocks_of, block_at, last_of, held_of, outstanding_of, cancelled_of, removal_of, first_device_word, devices_of, shutdown_service, panic_service, order_panic, order_shutdown, highest_delay, permission_at, order_of, delay_of, first_id_word, ids_of}
 use Rattle.model.specs.Devices.{devices_keep}
@@ -44,9 +42,9 @@ handle_apart s k =
     or every k (λ j. eqb (stage_at s j) stage_idle or not (eqb (handle_at s j) (handle_at s k)))
 
 -- the pages of the configured block that a pair names, 0 if there is none
-unfoldable pub room_at : List ℕ → Found → ℕ
-room_at s (At i) = pick (eqb (block_at s i).configured 1) (block_at s i).pages 0
-room_at s Nowhere = 0
+unfoldable pub room_at : List ℕ → Option ℕ → ℕ
+room_at s (Some i) = pick (eqb (block_at s i).configured 1) (block_at s i).pages 0
+room_at s None = 0
 
 abbrev pub room_of : List ℕ → ℕ → ℕ → ℕ
 room_of s addr size = room_at s (named_block s addr size)

@@ -1,9 +1,7 @@
 -- "Each work step does one thing": the work step, the pages that it moves, and the late reply.
 -- Assumes nothing.
-use Rattle.std.specs.Prelude.{ℕ, ◌+◌, ◌-◌, min, Bool, List, [], get_or, set, leb, ltb, eqb}
+use Rattle.std.specs.Prelude.{ℕ, ◌+◌, ◌-◌, min, Bool, List, [], get_or, set, leb, ltb, eqb, Option, Some, None}
 use Rattle.basics.specs.Choice.{pick, ◌or◌, joined}
-use Rattle.basics.specs.declared.Found.{Found}
-use Rattle.basics.specs.declared.Found.TheVariants.{At, Nowhere}
 use Rattle.model.specs.declared.Removal.{Removal}
 use Rattle.model.specs.Layout.{memory_service, block_at, removal_of, with_configured, with_removal, without_removal}
 use Rattle.model.specs.Blocks.{named_block}
@@ -19,16 +17,16 @@ abbrev pub size_now : Removal → ℕ
 size_now m = get_or m.size m.position 0
 
 -- the block that it names
-abbrev pub block_now : List ℕ → Removal → Found
+abbrev pub block_now : List ℕ → Removal → Option ℕ
 block_now s m = named_block s (addr_now m) (size_now m)
 
 abbrev pub all_settled : Removal → Bool
 all_settled m = leb m.count m.position
 
 -- kind 16's code: "3 if cancelled, else the failing record's 1 or 5, else 0"
-unfoldable pub failing_code : Found → ℕ
-failing_code (At i) = DR-MEM-RES-PERM
-failing_code Nowhere = DR-MEM-RES-FAILURE
+unfoldable pub failing_code : Option ℕ → ℕ
+failing_code (Some i) = DR-MEM-RES-PERM
+failing_code None = DR-MEM-RES-FAILURE
 
 unfoldable pub end_code : List ℕ → Removal → ℕ
 end_code s m =
@@ -119,10 +117,10 @@ works_on s m i budget =
     (moving (pages_moved s m i budget) (collects s m i (pages_moved s m i budget)))
 
 -- "or the record at the position is unknown or has permanent pages"
-unfoldable pub works_at : List ℕ → Removal → ℕ → Found → WorkStep
-works_at s m budget (At i) =
+unfoldable pub works_at : List ℕ → Removal → ℕ → Option ℕ → WorkStep
+works_at s m budget (Some i) =
     pick (eqb (block_at s i).permanent 0) (works_on s m i budget) (moving 0 (ending s m))
-works_at s m budget Nowhere = moving 0 (ending s m)
+works_at s m budget None = moving 0 (ending s m)
 
 -- "If cancelled, or all records are settled, or ..: end and reply."
 unfoldable pub step_of : List ℕ → Removal → ℕ → WorkStep

@@ -6,7 +6,6 @@ ghost use Rattle.basics.specs.Choice.{◌or◌, every, is_found};
 ghost use Rattle.model.specs.Layout.{channel_count, marks_at, most_ids, peered_at, peer_handle_at, peer_minor_at, ready_at, with_peer, without_peer};
 ghost use Rattle.model.specs.Peers.{is_peered, peer_apart, peered_as, peer_for, peers_below, peer_sound, peers_sound};
 
-use basics::Found;
 use model::{
     CHANNEL_COUNT, FIRST_ID_WORD, FIRST_PEER_WORD, ID_COUNT_WORD, ID_MINOR_PLACE, ID_WORDS,
     MARK_WORDS, MOST_IDS, MOST_PEERS, PEER_WORDS, State, TOP_BIT,
@@ -64,18 +63,18 @@ fn peered_as(state: &State, channel: usize, handle: u64, p: usize) -> bool
 }
 
 // The registration that the peer has under the handle, if there is one.
-pub fn find_peer(state: &State, channel: usize, handle: u64) -> Found
+pub fn find_peer(state: &State, channel: usize, handle: u64) -> Option<usize>
     requires { channel < channel_count }
     ensures { result ≡ peer_for state.now channel handle }
 {
     let mut p: usize = 0;
     while p < MOST_IDS {
         if peered_as(state, channel, handle, p) {
-            return Found::At { place: p };
+            return Some(p);
         }
         p += 1;
     }
-    Found::Nowhere
+    None
 }
 
 // The handle is one of the peer's live handles there.
@@ -85,8 +84,8 @@ pub fn has_handle(state: &State, channel: usize, handle: u64) -> bool
 {
     let found = find_peer(state, channel, handle);
     match found {
-        Found::At { place: _ } => true,
-        Found::Nowhere => false,
+        Some(_) => true,
+        None => false,
     }
 }
 

@@ -10,7 +10,6 @@ ghost use Rattle.model.specs.Memory.{addr_in, permanent_range, query_record, que
 ghost use Rattle.model.specs.Handler.{Handles};
 ghost use Rattle.queries.specs.Ranges.{Permanent, PermanentAt};
 
-use basics::Found;
 use model::{DR_MEM_OK, Handled, MEMORY_SERVICE, QUERY_BYTES, REPLY_HEADER_BYTES, State};
 
 // The permanent pages of a pair: how many bytes, and where they begin.
@@ -40,8 +39,8 @@ fn permanent_of(state: &State, addr: u64, size: u64) -> Range
 {
     let found = blocks::named_block(state, addr, size);
     match found {
-        Found::At { place } => permanent_at(state, place),
-        Found::Nowhere => Range {
+        Some(place) => permanent_at(state, place),
+        None => Range {
             bytes: size,
             first: addr,
         },

@@ -1,8 +1,7 @@
 // What a message received does: which channels hear it, and to which handler it goes; and the part of it that the host is shown.
 #![tactic(auto)]
 
-ghost use Rattle.std.specs.Prelude.{◌≡◌, true, ◌≤◌, ◌<◌, length};
-ghost use Rattle.basics.specs.declared.Found.TheVariants.{At, Nowhere};
+ghost use Rattle.std.specs.Prelude.{◌≡◌, true, ◌≤◌, ◌<◌, length, Some, None};
 ghost use Rattle.model.specs.Layout.{channel_count, output_bytes};
 ghost use Rattle.model.specs.Peers.{peer_for};
 ghost use Rattle.model.specs.State.{sound};
@@ -10,7 +9,6 @@ ghost use Rattle.model.specs.Messages.{decoded, registered_for};
 ghost use Rattle.model.specs.Calls.{data_for, peer_data, heard, receiving, is_host, goes_to_host, shown_to, to_host};
 ghost use Rattle.model.specs.Handler.{Handles};
 
-use basics::Found;
 use model::{
     DS_INV_HDL, DS_NACK, DS_UNREG_ACK, DS_UNREG_NACK, Handled, Message, REGISTERED, Route, State,
 };
@@ -36,7 +34,7 @@ fn deliver(
     out: &mut [u8],
 ) -> Handled
     requires { (sound state.old ≡ true) × (output_bytes ≤ length out.old) × (channel < channel_count) }
-    ensures { Handles (data_for state.old channel handle payload.now (At service)) out.old result.length result.event state.new out.new }
+    ensures { Handles (data_for state.old channel handle payload.now (Some service)) out.old result.length result.event state.new out.new }
 {
     let route = services::route(service);
     match route {
@@ -53,7 +51,7 @@ fn deliver(
 // "Otherwise the reply is NACK with the handle and result 3."
 fn refuse_data(state: &State, channel: usize, handle: u64, out: &mut [u8]) -> Handled
     requires { output_bytes ≤ length out.old }
-    ensures { Handles (peer_data state.now channel handle Nowhere) out.old result.length result.event state.now out.new }
+    ensures { Handles (peer_data state.now channel handle None) out.old result.length result.event state.now out.new }
 {
     let length = services::put_nack(out, handle, DS_INV_HDL);
     Handled {
@@ -69,11 +67,11 @@ fn take_peer_data(state: &State, channel: usize, handle: u64, out: &mut [u8]) ->
 {
     let found = peers::find_peer(state, channel, handle);
     match found {
-        Found::At { place: _ } => Handled {
+        Some(_) => Handled {
             length: 0,
             event: events::peer_data(channel as u64),
         },
-        Found::Nowhere => refuse_data(state, channel, handle, out),
+        None => refuse_data(state, channel, handle, out),
     }
 }
 
@@ -90,8 +88,8 @@ fn take_data(
 {
     let found = state::find_staged(state, channel, handle, REGISTERED);
     match found {
-        Found::At { place } => deliver(state, channel, place, handle, payload, out),
-        Found::Nowhere => take_peer_data(state, channel, handle, out),
+        Some(place) => deliver(state, channel, place, handle, payload, out),
+        None => take_peer_data(state, channel, handle, out),
     }
 }
 
@@ -140,12 +138,12 @@ pub fn take(state: &mut State, channel: usize, message: &[u8], out: &mut [u8]) -
 }
 
 // The data for the service that was found goes to the host.
-fn goes_to_host(found: Found) -> bool
+fn goes_to_host(found: Option<usize>) -> bool
     ensures { result ≡ goes_to_host found }
 {
     match found {
-        Found::At { place } => is_host(services::route(place)),
-        Found::Nowhere => false,
+        Some(place) => is_host(services::route(place)),
+        None => false,
     }
 }
 

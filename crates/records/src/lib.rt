@@ -1,17 +1,15 @@
 // The parts of a memory reply: its headers, and its result records.
 #![tactic(auto)]
 
-ghost use Rattle.std.specs.Prelude.{◌≡◌, [], ◌++◌, ◌+◌, ◌*◌, ◌≤◌, ◌<◌, length};
+ghost use Rattle.std.specs.Prelude.{◌≡◌, [], ◌++◌, ◌+◌, ◌*◌, ◌≤◌, ◌<◌, length, Some};
 ghost use Rattle.std.proofs.lemmas.List.Edits.{sets};
 ghost use Rattle.wire.specs.BigEndian.{bytes_of};
-ghost use Rattle.basics.specs.declared.Found.TheVariants.{At};
 ghost use Rattle.model.specs.Layout.{most_blocks, most_records, output_bytes, reply_header_bytes, result_bytes};
 ghost use Rattle.model.specs.Search.{BlocksInOrder};
 ghost use Rattle.model.specs.Memory.{DR-MEM-OK, status_of, result_record, status_at, memory_reply};
 ghost use Rattle.wire.specs.BigEndian.{written};
 ghost use Rattle.records.specs.Header.{memory_header};
 
-use basics::Found;
 use model::{DR_MEM_OK, DS_DATA, DS_HEADER_BYTES, REPLY_HEADER_BYTES, RESULT_BYTES, State};
 
 // the bytes of a reply's payload before its records
@@ -20,7 +18,7 @@ const PAYLOAD_HEADER_BYTES: usize = REPLY_HEADER_BYTES - DS_HEADER_BYTES;
 // The status of block `i`: 1 unconfigured, 2 configured.
 fn status_at(state: &State, i: usize) -> u64
     requires { i < most_blocks }
-    ensures { result ≡ status_at state.now (At i) }
+    ensures { result ≡ status_at state.now (Some i) }
 {
     if state::configured_of(state, i) == 1 {
         return 2;
@@ -35,8 +33,8 @@ pub fn status_of(state: &State, addr: u64, size: u64) -> u64
 {
     let found = blocks::named_block(state, addr, size);
     match found {
-        Found::At { place } => status_at(state, place),
-        Found::Nowhere => 0,
+        Some(place) => status_at(state, place),
+        None => 0,
     }
 }
 

@@ -1,8 +1,7 @@
 // 02, ticket 7: "The other end has services as well." What a REG_REQ of the peer does, and its UNREG.
 #![tactic(auto)]
 
-ghost use Rattle.std.specs.Prelude.{◌≡◌, true, List, ℕ, ◌≤◌, ◌<◌, length, leb, ltb};
-ghost use Rattle.basics.specs.declared.Found.TheVariants.{At, Nowhere};
+ghost use Rattle.std.specs.Prelude.{◌≡◌, true, List, ℕ, ◌≤◌, ◌<◌, length, leb, ltb, Some, None};
 ghost use Rattle.basics.specs.Choice.{pick, ◌or◌, is_found};
 ghost use Rattle.model.specs.Layout.{channel_count, most_ids, most_peers, output_bytes, with_peer};
 ghost use Rattle.model.specs.Peers.{top_bit, is_peered, peer_for, peers_below};
@@ -11,7 +10,6 @@ ghost use Rattle.model.specs.Journal.{peer_registered_event};
 ghost use Rattle.model.specs.Messages.{DS-REG-DUP, DS-REG-REQ, effect, noting, not_registering, peer_unregistered, reg_ack, reg_id, registering, registering_at, reg_nack};
 ghost use Rattle.model.specs.Handler.{Handles};
 
-use basics::Found;
 use model::{
     DS_REG_DUP, DS_REG_REQ, DS_REG_VER_NACK, DS_UNREG, Handled, MOST_PEERS, State, TOP_BIT,
 };
@@ -92,7 +90,7 @@ fn register_id(
     out: &mut [u8],
 ) -> Handled
     requires { (channel < channel_count) × (place < most_ids) × (20 ≤ length message.now) × (output_bytes ≤ length out.old) }
-    ensures { Handles (registering_at state.old channel message.now (At place)) out.old result.length result.event state.new out.new }
+    ensures { Handles (registering_at state.old channel message.now (Some place)) out.old result.length result.event state.new out.new }
 {
     let handle = wire::get64(message, 8);
     let asked = wire::get16(message, 16);
@@ -121,7 +119,7 @@ fn register_listed(
     out: &mut [u8],
 ) -> Handled
     requires { (channel < channel_count) × (place < most_ids) × (20 ≤ length message.now) × (output_bytes ≤ length out.old) }
-    ensures { Handles (pick (is_peered state.old channel place) (not_registering state.old channel message.now DS-REG-DUP 0) (registering_at state.old channel message.now (At place))) out.old result.length result.event state.new out.new }
+    ensures { Handles (pick (is_peered state.old channel place) (not_registering state.old channel message.now DS-REG-DUP 0) (registering_at state.old channel message.now (Some place))) out.old result.length result.event state.new out.new }
 {
     if peers::is_peered(state, channel, place) {
         return refuse(channel, wire::get64(message, 8), DS_REG_DUP, 0, out);
@@ -140,8 +138,8 @@ pub fn register_peer(state: &mut State, channel: usize, message: &[u8], out: &mu
     }
     let found = id_list::listed_id(state, id_of(message));
     match found {
-        Found::At { place } => register_listed(state, channel, place, message, out),
-        Found::Nowhere => refuse(channel, handle, DS_REG_VER_NACK, 0, out),
+        Some(place) => register_listed(state, channel, place, message, out),
+        None => refuse(channel, handle, DS_REG_VER_NACK, 0, out),
     }
 }
 
@@ -150,7 +148,7 @@ pub fn register_peer(state: &mut State, channel: usize, message: &[u8], out: &mu
 // A registration of the peer ended by its UNREG.
 fn end(state: &mut State, channel: usize, place: usize, handle: u64, out: &mut [u8]) -> Handled
     requires { (channel < channel_count) × (place < most_ids) × (output_bytes ≤ length out.old) }
-    ensures { Handles (peer_unregistered state.old channel handle (At place)) out.old result.length result.event state.new out.new }
+    ensures { Handles (peer_unregistered state.old channel handle (Some place)) out.old result.length result.event state.new out.new }
 {
     let length = services::put_unreg_ack(out, handle);
     peers::end_peer(state, channel, place);
@@ -163,7 +161,7 @@ fn end(state: &mut State, channel: usize, place: usize, handle: u64, out: &mut [
 // An UNREG of a handle that is not live.
 fn refuse_end(state: &State, channel: usize, handle: u64, out: &mut [u8]) -> Handled
     requires { output_bytes ≤ length out.old }
-    ensures { Handles (peer_unregistered state.now channel handle Nowhere) out.old result.length result.event state.now out.new }
+    ensures { Handles (peer_unregistered state.now channel handle None) out.old result.length result.event state.now out.new }
 {
     let length = services::put_unreg_nack(out, handle);
     Handled {
@@ -179,7 +177,7 @@ pub fn end_peer(state: &mut State, channel: usize, handle: u64, out: &mut [u8]) 
 {
     let found = peers::find_peer(state, channel, handle);
     match found {
-        Found::At { place } => end(state, channel, place, handle, out),
-        Found::Nowhere => refuse_end(state, channel, handle, out),
+        Some(place) => end(state, channel, place, handle, out),
+        None => refuse_end(state, channel, handle, out),
     }
 }

@@ -1,5 +1,6 @@
 -- The cases of a removal's work step, the late reply, and what a sound state gives.
 -- Assumes nothing.
+use Rattle.std.specs.Prelude.{Option, Some, None}
 use mathlib.Core.Path.{◌≡◌, refl, sym, ap, ◌∙◌}
 use mathlib.Core.Bool.{Bool, true, false}
 use mathlib.Core.List.{List, []}
@@ -12,8 +13,6 @@ use borrow.Author.Tests.{eqb-true, leb-false, ltb-true, ne_eqb, eq-eqb, lt-leb, 
 use Rattle.wire.specs.BigEndian.{written}
 use Rattle.basics.specs.Choice.{pick, ◌or◌, joined}
 use Rattle.model.specs.declared.Event.{Event}
-use Rattle.basics.specs.declared.Found.{Found}
-use Rattle.basics.specs.declared.Found.TheVariants.{At, Nowhere}
 use Rattle.model.specs.declared.Removal.{Removal}
 use Rattle.model.specs.Layout.{removal_of, block_at, is_set, last_of, cancelled_of, cancelled_word, first_address_word, first_numbered_word, first_result_word, first_size_word, most_blocks, most_records, output_bytes, outstanding_of, outstanding_word, position_word, reply_header_bytes, result_bytes, with_configured, with_removal, without_removal}
 use Rattle.model.specs.Blocks.{named_block}
@@ -117,7 +116,7 @@ below-room n room pages e l some = go (eqb room 0) refl e
     go true q t = let z = eqb-true n 0 t in omega arith
     go false q t = let z = ltb-true n room t in omega arith
 
-pub goes_on_lem : (s : List ℕ) (i : ℕ) → CanWork s → block_now s (removal_of s) ≡ At i → GoesOn s (removal_of s) i
+pub goes_on_lem : (s : List ℕ) (i : ℕ) → CanWork s → block_now s (removal_of s) ≡ Some i → GoesOn s (removal_of s) i
 goes_on_lem s i w e =
     let less = named-less s (addr_now (removal_of s)) (size_now (removal_of s)) i e in
     let k = sound-block s i w.is_sound less in
@@ -185,15 +184,15 @@ module _ (s : List ℕ) (m : Removal) (i : ℕ) {e : Event} {s' : List ℕ} wher
 
 -- The step by what was found.
 module _ (s : List ℕ) (m : Removal) (budget : ℕ) (out : List ℕ) {l : ℕ} {e : Event} {n : ℕ} {s' out' : List ℕ} where
-  pub at-permanent : (i : ℕ) → ((block_at s i).permanent ≡ 0 → ⊥) → HandlesStep (moving 0 (ending s m)) out l e n s' out' → HandlesStep (works_at s m budget (At i)) out l e n s' out'
+  pub at-permanent : (i : ℕ) → ((block_at s i).permanent ≡ 0 → ⊥) → HandlesStep (moving 0 (ending s m)) out l e n s' out' → HandlesStep (works_at s m budget (Some i)) out l e n s' out'
   unfolding works_at pick
   at-permanent i d h = rw (ne_eqb _ _ d) h
 
-  pub at-movable : (i : ℕ) → (block_at s i).permanent ≡ 0 → out' ≡ out → StepsSilently (works_on s m i budget) l e n s' → HandlesStep (works_at s m budget (At i)) out l e n s' out'
+  pub at-movable : (i : ℕ) → (block_at s i).permanent ≡ 0 → out' ≡ out → StepsSilently (works_on s m i budget) l e n s' → HandlesStep (works_at s m budget (Some i)) out l e n s' out'
   unfolding works_at pick
   at-movable i z q h = rw (eq-eqb _ _ z, q) (record { handles = silent-handles out h.handles; moves = h.moves })
 
-  pub at-nowhere : HandlesStep (moving 0 (ending s m)) out l e n s' out' → HandlesStep (works_at s m budget Nowhere) out l e n s' out'
+  pub at-nowhere : HandlesStep (moving 0 (ending s m)) out l e n s' out' → HandlesStep (works_at s m budget None) out l e n s' out'
   unfolding works_at
   at-nowhere h = h
 
@@ -202,6 +201,6 @@ module _ (s : List ℕ) (budget : ℕ) (out : List ℕ) {l : ℕ} {e : Event} {n
   unfolding step_of pick
   step-over q h = rw q h
 
-  pub step-found : ((removal_of s).cancelled or all_settled (removal_of s)) ≡ false → {x : Found} → x ≡ block_now s (removal_of s) → HandlesStep (works_at s (removal_of s) budget x) out l e n s' out' → HandlesStep (working s budget) out l e n s' out'
+  pub step-found : ((removal_of s).cancelled or all_settled (removal_of s)) ≡ false → {x : Option ℕ} → x ≡ block_now s (removal_of s) → HandlesStep (works_at s (removal_of s) budget x) out l e n s' out' → HandlesStep (working s budget) out l e n s' out'
   unfolding step_of pick
   step-found q {x} f h = rw (q, ← f) h

@@ -1,10 +1,9 @@
 // "Each work step does one thing": the work step of an outstanding removal, and the late reply at its end.
 #![tactic(auto)]
 
-ghost use Rattle.std.specs.Prelude.{◌≡◌, true, [], ◌+◌, ◌-◌, ◌<◌, ◌≤◌, min, length};
+ghost use Rattle.std.specs.Prelude.{◌≡◌, true, [], ◌+◌, ◌-◌, ◌<◌, ◌≤◌, min, length, Some};
 ghost use Rattle.std.proofs.lemmas.List.Edits.{sets};
 ghost use Rattle.wire.specs.BigEndian.{written};
-ghost use Rattle.basics.specs.declared.Found.TheVariants.{At};
 ghost use Rattle.basics.specs.Choice.{◌or◌, joined};
 ghost use Rattle.model.specs.Layout.{block_at, channel_count, is_set, most_blocks, most_records, output_bytes, outstanding_of, removal_of, reply_header_bytes, with_removal};
 ghost use Rattle.model.specs.Search.{BlocksInOrder};
@@ -15,14 +14,13 @@ ghost use Rattle.model.specs.Work.{block_now, all_settled, collects, end_code, e
 ghost use Rattle.model.specs.Handler.{Handles, HandlesSilently, HandlesStep};
 ghost use Rattle.removal.specs.Fits.{late_record, Fits, Held, CanWork, GoesOn, StepsSilently};
 
-use basics::Found;
 use model::{
     DR_MEM_RES_CANCELLED, DR_MEM_RES_FAILURE, DR_MEM_RES_NOWORK, DR_MEM_RES_OK, DR_MEM_RES_PERM,
     Event, Handled, MEMORY_SERVICE, REGISTERED, SERVICE_COUNT, State, Stepped,
 };
 
 // The block that the record at the position names, if there is one.
-fn block_now(state: &State) -> Found
+fn block_now(state: &State) -> Option<usize>
     requires { BlocksInOrder state.now × ((removal_of state.now).position < most_records) }
     ensures { result ≡ block_now state.now (removal_of state.now) }
 {
@@ -43,12 +41,12 @@ fn is_over(state: &State) -> bool
 }
 
 // The code of a failing record: unknown, or with permanent pages.
-fn failing_code(found: Found) -> u64
+fn failing_code(found: Option<usize>) -> u64
     ensures { result ≡ failing_code found }
 {
     match found {
-        Found::At { place: _ } => DR_MEM_RES_PERM,
-        Found::Nowhere => DR_MEM_RES_FAILURE,
+        Some(_) => DR_MEM_RES_PERM,
+        None => DR_MEM_RES_FAILURE,
     }
 }
 
@@ -221,8 +219,8 @@ fn end_step(state: &mut State, out: &mut [u8]) -> Stepped
 
 // "or the record at the position .. has permanent pages"
 fn work_at(state: &mut State, block: usize, budget: u64, out: &mut [u8]) -> Stepped
-    requires { CanWork state.old × (block_now state.old (removal_of state.old) ≡ At block) × (output_bytes ≤ length out.old) }
-    ensures { HandlesStep (works_at state.old (removal_of state.old) budget (At block)) out.old result.length result.event result.pages state.new out.new }
+    requires { CanWork state.old × (block_now state.old (removal_of state.old) ≡ Some block) × (output_bytes ≤ length out.old) }
+    ensures { HandlesStep (works_at state.old (removal_of state.old) budget (Some block)) out.old result.length result.event result.pages state.new out.new }
 {
     if state::permanent_of(state, block) != 0 {
         return end_step(state, out);
@@ -231,13 +229,13 @@ fn work_at(state: &mut State, block: usize, budget: u64, out: &mut [u8]) -> Step
 }
 
 // The work step of a removal that is not over, by the block that was found.
-fn work_found(state: &mut State, found: Found, budget: u64, out: &mut [u8]) -> Stepped
+fn work_found(state: &mut State, found: Option<usize>, budget: u64, out: &mut [u8]) -> Stepped
     requires { CanWork state.old × (block_now state.old (removal_of state.old) ≡ found) × (output_bytes ≤ length out.old) }
     ensures { HandlesStep (works_at state.old (removal_of state.old) budget found) out.old result.length result.event result.pages state.new out.new }
 {
     match found {
-        Found::At { place } => work_at(state, place, budget, out),
-        Found::Nowhere => end_step(state, out),
+        Some(place) => work_at(state, place, budget, out),
+        None => end_step(state, out),
     }
 }
 

@@ -1,13 +1,11 @@
 // The part of soundness that is of the removal. It reads the words themselves: to load the removal would copy them all for a few tests.
 #![tactic(auto)]
 
-ghost use Rattle.std.specs.Prelude.{◌≡◌, true, ◌<◌, ◌≤◌};
-ghost use Rattle.basics.specs.declared.Found.TheVariants.{At};
+ghost use Rattle.std.specs.Prelude.{◌≡◌, true, ◌<◌, ◌≤◌, Some};
 ghost use Rattle.model.specs.Layout.{highest_number, last_of, most_blocks, most_records, removal_of};
 ghost use Rattle.model.specs.Search.{BlocksInOrder};
 ghost use Rattle.model.specs.State.{collected_sound, outstanding_sound, removal_room, removal_sound, result_sound, results_sound, room_at, room_of};
 
-use basics::Found;
 use model::{
     CANCELLED_WORD, CHANNEL_COUNT, COLLECTED_WORD, COUNT_WORD, DR_MEM_RES_NOWORK, DR_MEM_RES_OK,
     FIRST_ADDRESS_WORD, FIRST_RESULT_WORD, FIRST_SIZE_WORD, LAST_WORD, MOST_RECORDS,
@@ -17,7 +15,7 @@ use model::{
 // The pages of block i if it is configured, else 0.
 fn room_at(state: &State, i: usize) -> u64
     requires { i < most_blocks }
-    ensures { result ≡ room_at state.now (At i) }
+    ensures { result ≡ room_at state.now (Some i) }
 {
     if state::configured_of(state, i) != 1 {
         return 0;
@@ -32,8 +30,8 @@ fn room_of(state: &State, addr: u64, size: u64) -> u64
 {
     let found = blocks::named_block(state, addr, size);
     match found {
-        Found::At { place } => room_at(state, place),
-        Found::Nowhere => 0,
+        Some(place) => room_at(state, place),
+        None => 0,
     }
 }
 

@@ -3,10 +3,10 @@
 use Rattle.basics.specs.Choice.{is_found}
 use Rattle.peers.proofs.has_handle.Goals as goal
 
-pub returns-in-At : goal.returns-in-At
+pub returns-in-Some : goal.returns-in-Some
 unfolding is_found
-returns-in-At c = rw (← c.find_peer-found.ensures, c.in-At.is)
+returns-in-Some c = rw (← c.find_peer-found.ensures, c.in-Some.is)
 
-pub returns-in-Nowhere : goal.returns-in-Nowhere
+pub returns-in-None : goal.returns-in-None
 unfolding is_found
-returns-in-Nowhere c = rw (← c.find_peer-found.ensures, c.in-Nowhere.is)
+returns-in-None c = rw (← c.find_peer-found.ensures, c.in-None.is)

@@ -5,14 +5,14 @@ use Rattle.model.specs.Memory.{permanent_bytes, permanent_first}
 use Rattle.queries.proofs.permanent_of.Goals as goal
 
 pub permanent_at-requires : goal.permanent_at-requires
-permanent_at-requires c = (c.requires, named-less _ _ _ _ (sym c.named_block-found.ensures ∙ c.in-At.is))
+permanent_at-requires c = (c.requires, named-less _ _ _ _ (sym c.named_block-found.ensures ∙ c.in-Some.is))
 
-pub returns-in-At : goal.returns-in-At
-returns-in-At c = rw (← c.named_block-found.ensures, c.in-At.is) (c.permanent_at.ensures _ _)
+pub returns-in-Some : goal.returns-in-Some
+returns-in-Some c = rw (← c.named_block-found.ensures, c.in-Some.is) (c.permanent_at.ensures _ _)
 
-pub returns-in-Nowhere : goal.returns-in-Nowhere
+pub returns-in-None : goal.returns-in-None
 unfolding permanent_bytes permanent_first
-returns-in-Nowhere c = rw (← c.named_block-found.ensures, c.in-Nowhere.is) (record { bytes = refl; first = refl })
+returns-in-None c = rw (← c.named_block-found.ensures, c.in-None.is) (record { bytes = refl; first = refl })
 
 pub named_block-found-requires : goal.named_block-found-requires
 named_block-found-requires c = sound-in-order _ c.requires

@@ -2,10 +2,10 @@ use mathlib.Core.Path.{ap, ◌∙◌}
 use Rattle.model.specs.Calls.{is_host, goes_to_host}
 use Rattle.reception.proofs.goes_to_host.Goals as goal
 
-pub returns-in-At : goal.returns-in-At
+pub returns-in-Some : goal.returns-in-Some
 unfolding goes_to_host
-returns-in-At c = rw c.in-At.is (c.is_host.ensures ∙ ap is_host c.route.ensures)
+returns-in-Some c = rw c.in-Some.is (c.is_host.ensures ∙ ap is_host c.route.ensures)
 
-pub returns-in-Nowhere : goal.returns-in-Nowhere
+pub returns-in-None : goal.returns-in-None
 unfolding goes_to_host
-returns-in-Nowhere c = rw c.in-Nowhere.is
+returns-in-None c = rw c.in-None.is

@@ -1,8 +1,8 @@
 -- `registration::register_peer` meets its contract: the tests, in another order than the definition has them.
 -- Assumes nothing.
+use Rattle.std.specs.Prelude.{Option}
 use mathlib.Core.Bool.{false}
 use Rattle.model.specs.Messages.{reg_handle, reg_id}
-use Rattle.basics.specs.declared.Found.{Found}
 use native.Mathlib.Omega.{arith}
 use mathlib.Core.Path.{◌≡◌, sym, ◌∙◌}
 use Rattle.model.proofs.Rules.{sound-facts}
@@ -24,7 +24,7 @@ not-refused : (c : (lts.After-id_of tie.the-claims reads.Pre reads.Post)) → re
 not-refused c = sym c.is_refused.ensures ∙ c.if-is_refused.false
 
 -- what was found
-found_of : (c : (lts.After-listed_id tie.the-claims reads.Pre reads.Post)) (x : Found) → c.listed_id-found.result ≡ x → listed_id c.args.state.now (reg_id c.args.message.now) ≡ x
+found_of : (c : (lts.After-listed_id tie.the-claims reads.Pre reads.Post)) (x : Option ℕ) → c.listed_id-found.result ≡ x → listed_id c.args.state.now (reg_id c.args.message.now) ≡ x
 found_of c x e = rw (← c.id_of.ensures) (sym c.listed_id-found.ensures ∙ e)
 
 pub listed_id-found-requires : goal.listed_id-found-requires
@@ -32,12 +32,12 @@ listed_id-found-requires c = (sound-facts _ c.requires.0).ids
 
 pub register_listed-requires : goal.register_listed-requires
 register_listed-requires c =
-    (omega arith, place-less _ _ _ (sound-facts _ c.requires.0).ids (found_of (search) _ c.in-At.is), omega arith, omega arith)
+    (omega arith, place-less _ _ _ (sound-facts _ c.requires.0).ids (found_of (search) _ c.in-Some.is), omega arith, omega arith)
 
-pub returns-in-At : goal.returns-in-At
-returns-in-At c =
-    rw (listed _ _ _ _ (handle-of (search)) _ (not-refused (search)) (found_of (search) _ c.in-At.is)) c.register_listed.ensures
+pub returns-in-Some : goal.returns-in-Some
+returns-in-Some c =
+    rw (listed _ _ _ _ (handle-of (search)) _ (not-refused (search)) (found_of (search) _ c.in-Some.is)) c.register_listed.ensures
 
-pub returns-in-Nowhere : goal.returns-in-Nowhere
-returns-in-Nowhere c =
-    rw (unlisted _ _ _ _ (handle-of (search)) (not-refused (search)) (found_of (search) _ c.in-Nowhere.is)) (c.refuse-in-Nowhere.ensures _)
+pub returns-in-None : goal.returns-in-None
+returns-in-None c =
+    rw (unlisted _ _ _ _ (handle-of (search)) (not-refused (search)) (found_of (search) _ c.in-None.is)) (c.refuse-in-None.ensures _)

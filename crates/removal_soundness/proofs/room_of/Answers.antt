@@ -5,11 +5,11 @@ use Rattle.model.proofs.Sounds.{named-less}
 use Rattle.removal_soundness.proofs.room_of.Goals as goal
 
 pub room_at-requires : goal.room_at-requires
-room_at-requires c = let e = named-less _ _ _ _ (sym c.named_block-found.ensures ∙ c.in-At.is) in omega (arith, e)
+room_at-requires c = let e = named-less _ _ _ _ (sym c.named_block-found.ensures ∙ c.in-Some.is) in omega (arith, e)
 
-pub returns-in-At : goal.returns-in-At
-returns-in-At c = rw (← c.named_block-found.ensures, c.in-At.is) c.room_at.ensures
+pub returns-in-Some : goal.returns-in-Some
+returns-in-Some c = rw (← c.named_block-found.ensures, c.in-Some.is) c.room_at.ensures
 
-pub returns-in-Nowhere : goal.returns-in-Nowhere
+pub returns-in-None : goal.returns-in-None
 unfolding room_at
-returns-in-Nowhere c = rw (← c.named_block-found.ensures, c.in-Nowhere.is)
+returns-in-None c = rw (← c.named_block-found.ensures, c.in-None.is)
