@@ -61,13 +61,13 @@ module _ (P : ℕ → Type 0) (l : List ℕ) (m : ℕ) where
 -- The highest major below a bound.
 module _ (l : List ℕ) (bound : ℕ) where
   -- a number that is 0, or a major of the first n versions below the bound
-  abbrev Option ℕ : ℕ → ℕ → Type 0
-  Option ℕ n m = (m ≡ 0 → ⊥) → (holds_in l m n ≡ true) × (m < bound)
+  abbrev Found : ℕ → ℕ → Type 0
+  Found n m = (m ≡ 0 → ⊥) → (holds_in l m n ≡ true) × (m < bound)
 
-  found-more : (n m : ℕ) → Option ℕ n m → Option ℕ (suc n) m
+  found-more : (n m : ℕ) → Found n m → Found (suc n) m
   found-more n m f z = let r = f z in (holds_more l m n r.0, r.1)
 
-  found-higher : (n a b : ℕ) → Option ℕ n a → Option ℕ n b → Option ℕ n (max a b)
+  found-higher : (n a b : ℕ) → Found n a → Found n b → Found n (max a b)
   found-higher n a b f g =
       by_cases (leb b a)
       (λ e. let q : max a b ≡ a = omega (arith, leb-true b a e) in rw q f)
@@ -78,7 +78,7 @@ module _ (l : List ℕ) (bound : ℕ) where
   highest-held zero f = absurd (f refl)
   highest-held (suc n) f =
       let before = found-more n _ (highest-held n) in
-      on-pick (Option ℕ (suc n)) _ _ _
+      on-pick (Found (suc n)) _ _ _
       (λ t. found-higher (suc n) (major_at l n) _ (λ _. (holds-here l n, ltb-true _ _ t)) before)
       (λ _. before)
       f

@@ -1,6 +1,6 @@
 -- `reception::take_peer_data` meets its contract: the cases of what is found.
 -- Assumes nothing.
-use Rattle.std.specs.Prelude.{Option}
+use Rattle.std.specs.Prelude.{ℕ, Option}
 use mathlib.Core.Path.{◌≡◌, refl, sym, ◌∙◌}
 use Rattle.wire.specs.BigEndian.{written}
 use Rattle.model.specs.Peers.{peer_for}

@@ -1,6 +1,6 @@
 -- `registration::register_peer` meets its contract: the tests, in another order than the definition has them.
 -- Assumes nothing.
-use Rattle.std.specs.Prelude.{Option}
+use Rattle.std.specs.Prelude.{ℕ, Option}
 use mathlib.Core.Bool.{false}
 use Rattle.model.specs.Messages.{reg_handle, reg_id}
 use native.Mathlib.Omega.{arith}
