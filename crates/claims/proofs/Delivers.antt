@@ -19,7 +19,8 @@ use Rattle.model.specs.Messages.{Effect, DS-INV-HDL, closing, decoded, decoded_b
 use Rattle.model.specs.Memory.{memory_reply, Progress, answered_memory, answering, answering_configure, answering_error, beginning, blocked, cancelling, configure_reply, configured_by, querying, reporting}
 use Rattle.model.specs.Calls.{act, accepted, allowed, data_for, peer_data, effect_of, heard, hears, in_range, outcome, pages_of, receive, receiving, refusal_of, refused, routed}
 use Rattle.model.specs.Devices.{named_device}
-use Rattle.model.specs.DeviceRequests.{operation_of, device_number, device_id, device_type, device_name, device_reply, answering_device, asking_device, device_for, answered_device}
+use Rattle.model.specs.declared.DeviceOperation.{DeviceOperation}
+use Rattle.model.specs.DeviceRequests.{operation_of, device_number, device_id, device_type, device_name, device_reply, answering_device, asking_device, device_for, device_asked, answered_device}
 use Rattle.model.specs.Orders.{order_number, order_reply, not_ordered, ordering, ordering_for, answered_order}
 use Rattle.model.specs.Peers.{top_bit, is_peered, peered_as, peer_for}
 use Rattle.model.specs.Reading.{view_of, no_peer, peer, peer_place, peers_shown, has_handle}
@@ -197,15 +198,19 @@ module _ (s : List ℕ) (c handle : ℕ) where
   unfolding answered_device
   devices-tell payload =
       on-pick (λ (e : Effect). reached_by handle e ≡ Some device_service) _ _ _
-      (λ _. named (named_device s (device_id payload) (device_name payload)))
+      (λ _. asked (operation_of (device_type payload)))
       (λ _. unfold answering_device in (told _ s _ _ _ (served-answered c device_service _ _)))
     where
       told : (e : Event) (t : List ℕ) (request result status : ℕ) → served_by e ≡ Some device_service → reached_by handle (effect e t (device_reply handle request result status)) ≡ Some device_service
       told e t request result status q = unfold reached_by pick in (rw (device-no-nack handle handle request result status) q)
 
-      named : (x : Option ℕ) → reached_by handle (device_for s c handle (device_number payload) (operation_of (device_type payload)) x) ≡ Some device_service
-      named (Some i) = unfold device_for asking_device in (told _ _ _ _ _ (unfold served_by pick ◌and◌ ◌or◌ in refl))
-      named None = unfold device_for answering_device in (told _ s _ _ _ (served-answered c device_service _ _))
+      named : (o : DeviceOperation) (x : Option ℕ) → reached_by handle (device_for s c handle (device_number payload) o x) ≡ Some device_service
+      named o (Some i) = unfold device_for asking_device in (told _ _ _ _ _ (unfold served_by pick ◌and◌ ◌or◌ in refl))
+      named o None = unfold device_for answering_device in (told _ s _ _ _ (served-answered c device_service _ _))
+
+      asked : (x : Option DeviceOperation) → reached_by handle (device_asked s c handle payload x) ≡ Some device_service
+      asked (Some o) = unfold device_asked in (named o (named_device s (device_id payload) (device_name payload)))
+      asked None = unfold device_asked answering_device in (told _ s _ _ _ (served-answered c device_service _ _))
 
   -- every answer of a service of orders tells of it
   orders-tell : (v : ℕ) (payload : List ℕ) → reached_by handle (answered_order s c handle v payload) ≡ Some v

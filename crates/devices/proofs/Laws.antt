@@ -1,6 +1,6 @@
 -- A request of the virtual devices' service: its form, its response, and what it does.
 -- Assumes nothing.
-use Rattle.std.specs.Prelude.{Some}
+use Rattle.std.specs.Prelude.{Some, None}
 use mathlib.Core.Path.{◌≡◌, refl, sym, ap, ◌∙◌}
 use mathlib.Core.Bool.{true, false, not}
 use mathlib.Core.List.{List, []}
@@ -19,7 +19,7 @@ use Rattle.model.specs.Layout.{data_header_bytes, device_at, device_header_bytes
 use Rattle.model.specs.Journal.{answered_event, device_event}
 use Rattle.model.specs.Messages.{DS-DATA, ds_data, ds_message}
 use Rattle.model.specs.Devices.{devices_keep, named_device}
-use Rattle.model.specs.DeviceRequests.{DR-VIO-RES-FAILURE, DR-VIO-RES-BLOCKED, DR-VIO-RES-OK, DR-VIO-STAT-NOT-PRESENT, answered_device, answering_device, asking_device, configured_after, device_for, device_form, device_id, device_name, device_number, device_reply, device_result, device_status, device_type, has_name, operation_of}
+use Rattle.model.specs.DeviceRequests.{DR-VIO-RES-FAILURE, DR-VIO-RES-BLOCKED, DR-VIO-RES-OK, DR-VIO-STAT-NOT-PRESENT, answered_device, answering_device, asking_device, configured_after, device_asked, device_for, device_id, device_name, device_number, device_reply, device_result, device_status, device_type, has_name, operation_of}
 use Rattle.model.specs.Handler.{Handles}
 use Rattle.basics.proofs.Choice.{and-false, and-false-right, both, first-facts, join, pick-false, pick_true}
 use Rattle.model.proofs.Replies.{device-short}
@@ -118,21 +118,16 @@ named-place s id name i e f =
     let h = (first-facts _ _ i f).below in
     omega (arith, devices-few s first_device_word (devices_of s) e)
 
--- A request's form.
+-- A request's form: no name, no type, or both.
 module _ (s : List ℕ) (c handle : ℕ) (b : List ℕ) {request : ℕ} (n : request ≡ device_number b) where
-  not-formed : device_form b ≡ false → answering_device s c handle request DR-VIO-RES-FAILURE ≡ answered_device s c handle b
-  unfolding answered_device
-  not-formed z = ap (λ (k : ℕ). answering_device s c handle k DR-VIO-RES-FAILURE) n ∙ sym (pick-false _ _ _ z)
-
   pub no_name : has_name b ≡ false → answering_device s c handle request DR-VIO-RES-FAILURE ≡ answered_device s c handle b
-  unfolding device_form
-  no_name z = not-formed (and-false _ _ z)
+  unfolding answered_device
+  no_name z = ap (λ (k : ℕ). answering_device s c handle k DR-VIO-RES-FAILURE) n ∙ sym (pick-false _ _ _ z)
 
-  module _ {o : DeviceOperation} (k : o ≡ operation_of (device_type b)) where
-    pub no-type : o.known ≡ false → answering_device s c handle request DR-VIO-RES-FAILURE ≡ answered_device s c handle b
-    unfolding device_form
-    no-type z = not-formed (and-false-right _ _ (rw (← k) z))
+  pub no-type : has_name b ≡ true → operation_of (device_type b) ≡ None → answering_device s c handle request DR-VIO-RES-FAILURE ≡ answered_device s c handle b
+  unfolding answered_device device_asked
+  no-type h z = rw n (sym (pick_true _ _ _ h ∙ rw z))
 
-    pub formed : {id : ℕ} {name : List ℕ} → has_name b ≡ true → o.known ≡ true → id ≡ device_id b → name ≡ device_name b → device_for s c handle request o (named_device s id name) ≡ answered_device s c handle b
-    unfolding answered_device device_form
-    formed h z i m = rw (n, k, i, m) (sym (pick_true _ _ _ (join _ _ h (rw (← k) z))))
+  pub formed : {o : DeviceOperation} {id : ℕ} {name : List ℕ} → has_name b ≡ true → operation_of (device_type b) ≡ Some o → id ≡ device_id b → name ≡ device_name b → device_for s c handle request o (named_device s id name) ≡ answered_device s c handle b
+  unfolding answered_device device_asked
+  formed h z i m = rw (n, i, m) (sym (pick_true _ _ _ h ∙ rw z))

@@ -24,38 +24,27 @@ const PAYLOAD_BYTES: usize = DATA_HEADER_BYTES - DS_HEADER_BYTES + DEVICE_REPLY_
 const RESPONSE_BYTES: usize = DATA_HEADER_BYTES + DEVICE_REPLY_BYTES;
 
 // What one of the four types asks for.
-fn known(changes: bool, configured: u64, blockable: bool) -> DeviceOperation
-    ensures { result ≡ operation true changes configured blockable }
+fn asks(changes: bool, configured: u64, blockable: bool) -> DeviceOperation
+    ensures { result ≡ operation changes configured blockable }
 {
     DeviceOperation {
-        known: true,
-        changes: changes,
-        configured: configured,
-        blockable: blockable,
+        changes,
+        configured,
+        blockable,
     }
 }
 
 // What a type of message asks for. "Unconfigure of a busy device is BLOCKED; the forced form succeeds."
-fn operation(message_type: u32) -> DeviceOperation
+#[tactic(auto, unfolding(model::specs::DeviceRequests::operation_of, basics::specs::Choice::pick))]
+fn operation(message_type: u32) -> Option<DeviceOperation>
     ensures { result ≡ operation_of message_type }
 {
-    if message_type == DR_VIO_CONFIGURE {
-        return known(true, 1, false);
-    }
-    if message_type == DR_VIO_UNCONFIGURE {
-        return known(true, 0, true);
-    }
-    if message_type == DR_VIO_FORCE_UNCONFIG {
-        return known(true, 0, false);
-    }
-    if message_type == DR_VIO_STATUS {
-        return known(false, 0, false);
-    }
-    DeviceOperation {
-        known: false,
-        changes: false,
-        configured: 0,
-        blockable: false,
+    match message_type {
+        DR_VIO_CONFIGURE => Some(asks(true, 1, false)),
+        DR_VIO_UNCONFIGURE => Some(asks(true, 0, true)),
+        DR_VIO_FORCE_UNCONFIG => Some(asks(true, 0, false)),
+        DR_VIO_STATUS => Some(asks(false, 0, false)),
+        _ => None,
     }
 }
 
@@ -75,10 +64,8 @@ fn none_is_zero(b: &[u8], from: usize, n: usize) -> bool
     ensures { result ≡ every n (λ k. not (eqb (byte_at b.now (from + k)) 0)) }
 {
     let mut none = true;
-    let mut k: usize = 0;
-    while k < n {
+    for k in 0..n {
         none = none & (b[from + k] != 0);
-        k += 1;
     }
     none
 }
@@ -212,8 +199,7 @@ fn hear(
     requires { (sound state.old ≡ true) × (output_bytes ≤ length out.old) }
     ensures { Handles (device_for state.old channel handle request o (named_device state.old id name.now)) out.old result.length result.event state.new out.new }
 {
-    let found = device_list::named_device(state, id, name);
-    match found {
+    match device_list::named_device(state, id, name) {
         Some(place) => ask(state, channel, handle, request, o, place, out),
         None => refuse(channel, handle, request, unknown_result(o.changes), out),
     }
@@ -228,10 +214,9 @@ pub fn answer(state: &mut State, channel: u64, handle: u64, b: &[u8], out: &mut 
     if !has_name(b) {
         return refuse(channel, handle, request, DR_VIO_RES_FAILURE, out);
     }
-    let o = operation(wire::get32(b, DEVICE_NUMBER_BYTES) as u32);
-    if !o.known {
+    let Some(o) = operation(wire::get32(b, DEVICE_NUMBER_BYTES) as u32) else {
         return refuse(channel, handle, request, DR_VIO_RES_FAILURE, out);
-    }
+    };
     hear(
         state,
         channel,

@@ -11,7 +11,7 @@ use Rattle.basics.specs.Choice.{pick, ◌or◌}
 use Rattle.model.specs.declared.DeviceOperation.{DeviceOperation}
 use Rattle.model.specs.Layout.{channel_count, device_service, Device, device_at, devices_of, first_device_word, with_device, output_bytes}
 use Rattle.model.specs.Devices.{named_device}
-use Rattle.model.specs.DeviceRequests.{operation_of, device_result, configured_after, device_type, device_number, device_id, device_name, answering_device, asking_device, device_for, answered_device}
+use Rattle.model.specs.DeviceRequests.{operation_of, device_result, configured_after, device_type, device_number, device_id, device_name, answering_device, asking_device, device_for, device_asked, answered_device}
 use Rattle.model.specs.Journal.{answered_event, device_event, fields_of}
 use Rattle.model.specs.Messages.{effect}
 use Rattle.model.specs.Reading.{handle_in, read_in, settled_block, view_of}
@@ -34,13 +34,17 @@ unfolding named_device
 device-less s id name i e = (first-facts (devices_of s) _ i e).below
 
 -- a request asks for 0 or 1, and so does what it leaves
-operation-flag : (type : ℕ) → (operation_of type).configured ≤ 1
+abbrev Flagged : Option DeviceOperation → Type 0
+Flagged (Some o) = o.configured ≤ 1
+Flagged None = Unit
+
+operation-flag : (type : ℕ) → Flagged (operation_of type)
 unfolding operation_of
 operation-flag type =
-    on-pick (λ (o : DeviceOperation). o.configured ≤ 1) _ _ _ (λ _. omega arith)
-    (λ _. on-pick (λ (o : DeviceOperation). o.configured ≤ 1) _ _ _ (λ _. omega arith)
-    (λ _. on-pick (λ (o : DeviceOperation). o.configured ≤ 1) _ _ _ (λ _. omega arith)
-    (λ _. on-pick (λ (o : DeviceOperation). o.configured ≤ 1) _ _ _ (λ _. omega arith) (λ _. omega arith))))
+    on-pick Flagged _ _ _ (λ _. omega arith)
+    (λ _. on-pick Flagged _ _ _ (λ _. omega arith)
+    (λ _. on-pick Flagged _ _ _ (λ _. omega arith)
+    (λ _. on-pick Flagged _ _ _ (λ _. omega arith) (λ _. tt))))
 
 after-flag : (o : DeviceOperation) (d : Device) → o.configured ≤ 1 → d.configured ≤ 1 → configured_after o d ≤ 1
 unfolding configured_after
@@ -91,9 +95,15 @@ module _ (s : List ℕ) (g : Given s) (c : ℕ) (h : ReachesDevices s c) where
   for-good handle request o id name flag None e =
       answering-good handle request _ (on-pick (λ (n : ℕ). n < code_end) _ _ _ (λ _. omega arith) (λ _. omega arith))
 
+  asked-good : (handle : ℕ) (b : List ℕ) (x : Option DeviceOperation) → Flagged x → Good s (device_asked s c handle b x)
+  unfolding device_asked
+  asked-good handle b (Some o) flag =
+      for-good handle (device_number b) o (device_id b) (device_name b) flag (named_device s (device_id b) (device_name b)) refl
+  asked-good handle b None flag = answering-good handle (device_number b) _ (omega arith)
+
   pub devices-good : (handle : ℕ) (b : List ℕ) → Good s (answered_device s c handle b)
   unfolding answered_device
   devices-good handle b =
       on-pick (Good s) _ _ _
-      (λ _. for-good handle (device_number b) (operation_of (device_type b)) (device_id b) (device_name b) (operation-flag (device_type b)) (named_device s (device_id b) (device_name b)) refl)
+      (λ _. asked-good handle b (operation_of (device_type b)) (operation-flag (device_type b)))
       (λ _. answering-good handle (device_number b) _ (omega arith))

@@ -10,13 +10,13 @@ use lib.Dec.{eqb}
 use borrow.Author.Tests.{ltb-false, leb-false, eqb-true, eqb-false, not-false}
 use Rattle.basics.specs.Choice.{pick}
 use Rattle.model.specs.State.{sound}
-use Rattle.model.specs.Refusals.{Refusal, refusal_in, action_refusal, drain_refusal}
+use Rattle.model.specs.Refusals.{Row, refusal_in, action_refusal, drain_refusal}
 use Rattle.model.specs.Calls.{Action, Outcome, accepted, act, allowed, drain, drained, effect_of, in_range, outcome, pages_of, refusal_of, refused}
 use Rattle.basics.proofs.Choice.{on-pick}
 use Rattle.model.specs.Layout.{entry_words, held_of, highest_number, journal_words, last_of, most_held, output_bytes}
 
 -- A row of a table that refuses nothing: the first does not apply, and neither does a later one.
-pub row-passed : (r : Refusal) (rs : List Refusal) → eqb r.number 0 ≡ false → refusal_in (r ∷ rs) ≡ 0 → (r.when ≡ false) × (refusal_in rs ≡ 0)
+pub row-passed : (r : Row) (rs : List Row) → eqb r.number 0 ≡ false → refusal_in (r ∷ rs) ≡ 0 → (r.when ≡ false) × (refusal_in rs ≡ 0)
 unfolding refusal_in
 row-passed r rs z e = go r.when refl e
   where

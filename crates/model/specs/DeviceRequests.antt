@@ -45,19 +45,18 @@ DR-VIO-STAT-UNCONFIGURED = 1
 abbrev pub DR-VIO-STAT-CONFIGURED : ℕ
 DR-VIO-STAT-CONFIGURED = 2
 
--- The four types: whether there is such a type; whether it asks for a change, and for which state (1 configured); whether a busy device blocks that change.
+-- The four types: whether each asks for a change, and for which state (1 configured); whether a busy device blocks that change.
 -- "Unconfigure of a busy device is BLOCKED; the forced form succeeds."
-abbrev pub operation : Bool → Bool → ℕ → Bool → DeviceOperation
-operation known changes configured blockable =
-    record { known = known; changes = changes; configured = configured; blockable = blockable }
+abbrev pub operation : Bool → ℕ → Bool → DeviceOperation
+operation changes configured blockable = record { changes = changes; configured = configured; blockable = blockable }
 
-unfoldable pub operation_of : ℕ → DeviceOperation
+unfoldable pub operation_of : ℕ → Option DeviceOperation
 operation_of type =
-    pick (eqb type DR-VIO-CONFIGURE) (operation true true 1 false)
-    (pick (eqb type DR-VIO-UNCONFIGURE) (operation true true 0 true)
-    (pick (eqb type DR-VIO-FORCE-UNCONFIG) (operation true true 0 false)
-    (pick (eqb type DR-VIO-STATUS) (operation true false 0 false)
-    (operation false false 0 false))))
+    pick (eqb type DR-VIO-CONFIGURE) (Some (operation true 1 false))
+    (pick (eqb type DR-VIO-UNCONFIGURE) (Some (operation true 0 true))
+    (pick (eqb type DR-VIO-FORCE-UNCONFIG) (Some (operation true 0 false))
+    (pick (eqb type DR-VIO-STATUS) (Some (operation false 0 false))
+    None)))
 
 -- The request b: what a data message holds from byte 16 on: req_num (8), dev_id (8), msg_type (4), name. "under 16 bytes req_num is 0"
 unfoldable pub device_number : List ℕ → ℕ
@@ -78,9 +77,6 @@ has_name b =
     ltb device_header_bytes (length b)
     and eqb (byte_at b (length b - 1)) 0
     and every (length b - 1 - device_header_bytes) (λ k. not (eqb (byte_at b (device_header_bytes + k)) 0))
-
-unfoldable pub device_form : List ℕ → Bool
-device_form b = has_name b and (operation_of (device_type b)).known
 
 -- The response: req_num, result, status, and "The reason string is one zero byte."
 unfoldable pub device_reply : ℕ → ℕ → ℕ → ℕ → List ℕ
@@ -122,8 +118,13 @@ device_for s c handle request o None =
     answering_device s c handle request (pick o.changes DR-VIO-RES-NOT-IN-MD DR-VIO-RES-FAILURE)
 
 -- "An unknown message type, or a name without its one zero at the end, is FAILURE, status 0"
+unfoldable pub device_asked : List ℕ → ℕ → ℕ → List ℕ → Option DeviceOperation → Effect
+device_asked s c handle b (Some o) =
+    device_for s c handle (device_number b) o (named_device s (device_id b) (device_name b))
+device_asked s c handle b None = answering_device s c handle (device_number b) DR-VIO-RES-FAILURE
+
 unfoldable pub answered_device : List ℕ → ℕ → ℕ → List ℕ → Effect
 answered_device s c handle b =
-    pick (device_form b)
-    (device_for s c handle (device_number b) (operation_of (device_type b)) (named_device s (device_id b) (device_name b)))
+    pick (has_name b)
+    (device_asked s c handle b (operation_of (device_type b)))
     (answering_device s c handle (device_number b) DR-VIO-RES-FAILURE)

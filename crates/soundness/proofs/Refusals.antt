@@ -1,17 +1,21 @@
 -- The rows of the refusals: those of drain, and the rows after them.
 -- Assumes nothing.
-use mathlib.Core.Path.{◌≡◌, refl}
+use mathlib.Core.Path.{◌≡◌, refl, sym, ◌∙◌}
 use mathlib.Core.Bool.{Bool, true, false}
 use mathlib.Core.List.{List, [], ◌∷◌, ◌++◌}
 use Prim.Native.Nat.{ℕ, ◌≤◌, ◌<◌}
 use borrow.Author.Tests.{lt-ltb, le-ltb, lt-leb, le-leb}
 use Rattle.basics.specs.Choice.{pick}
-use Rattle.model.specs.Refusals.{Refusal, refusal_in, lent_rows, action_rows, action_refusal, drain_refusal}
+use native.Mathlib.Omega.{arith}
+use lib.ListN.{length}
+use Rattle.model.specs.declared.Refusal.{Refusal}
+use Rattle.model.specs.declared.Refusal.TheVariants.{BadJournal, ShortOutput, OutOfRange, JournalFull, NumbersUsed, NotAllowed, BadList, Unsound}
+use Rattle.model.specs.Refusals.{Row, number_of, refusal_in, lent_rows, action_rows, action_refusal, drain_refusal}
 use Rattle.model.proofs.Calls.{row-passed}
-use Rattle.model.specs.Layout.{held_of, highest_number, last_of, most_held, output_bytes}
+use Rattle.model.specs.Layout.{held_of, highest_number, last_of, most_held, output_bytes, state_words}
 
 -- rows that refuse hide the rows after them
-rows-first : (xs ys : List Refusal) → (refusal_in xs ≡ 0 → ⊥) → refusal_in (xs ++ ys) ≡ refusal_in xs
+rows-first : (xs ys : List Row) → (refusal_in xs ≡ 0 → ⊥) → refusal_in (xs ++ ys) ≡ refusal_in xs
 unfolding refusal_in
 rows-first [] ys n = absurd (n refl)
 rows-first (r ∷ xs) ys n = go r.when n (rows-first xs ys)
@@ -32,6 +36,21 @@ module _ (s : List ℕ) (words bytes : ℕ) (within may : Bool) where
       let p = row-passed _ _ refl e in
       let q = row-passed _ _ refl p.1 in
       unfold refusal_in pick in rw (p.0, q.0)
+
+  -- past them, what the rows of an action give, with the state's length
+  pub refused-by : 0 ≡ drain_refusal s words → length s ≡ state_words → {n : ℕ} → refusal_in (action_rows s bytes within may) ≡ n → (n ≡ action_refusal s words bytes within may) × (length s ≡ state_words)
+  refused-by z size e = (sym (refusal-past (sym z) ∙ e), size)
+
+-- no refusal has the number 0
+pub positive : (r : Refusal) → number_of r ≡ 0 → ⊥
+positive BadJournal z = omega (arith, z)
+positive ShortOutput z = omega (arith, z)
+positive OutOfRange z = omega (arith, z)
+positive JournalFull z = omega (arith, z)
+positive NumbersUsed z = omega (arith, z)
+positive NotAllowed z = omega (arith, z)
+positive BadList z = omega (arith, z)
+positive Unsound z = omega (arith, z)
 
 -- the rows of an action, one after the other
 module _ (s : List ℕ) (bytes : ℕ) (within may : Bool) where

@@ -1,7 +1,7 @@
 -- `devices::answer` meets its contract: FAILURE for the form of the name or the type; else what the type asks for.
 -- Assumes nothing.
 use mathlib.Core.Bool.{not}
-use mathlib.Core.Path.{◌≡◌, ap, ◌∙◌}
+use mathlib.Core.Path.{◌≡◌, sym, ap, ◌∙◌}
 use mathlib.Core.Bool.{true}
 use borrow.Author.Tests.{not-true, not-false}
 use Prim.Native.Nat.{◌-◌}
@@ -25,10 +25,6 @@ returns-then-not-has_name c =
 named : (c : (lts.Else1 tie.the-claims reads.Pre reads.Post)) → has_name c.args.b.now ≡ true
 named c = yes _ c.has_name.ensures (ap not c.if-not-has_name.false)
 
-pub returns-then-not-o : goal.returns-then-not-o
-returns-then-not-o c =
-    rw (← no-type _ _ _ _ c.number-request.ensures (c.operation-o.ensures ∙ ap operation_of c.get32.ensures.0) (not-true _ c.if-not-o.true)) (c.refuse-then-not-o.ensures _)
-
 pub get64-requires : goal.get64-requires
 get64-requires c = omega (arith, name-long _ (named (search)))
 
@@ -38,14 +34,18 @@ slice_bounds-hear-count c = omega (arith, name-long _ (named (search)))
 pub slice_bounds-hear-start : goal.slice_bounds-hear-start
 slice_bounds-hear-start c = omega (arith, name-long _ (named (search)))
 
-pub returns : goal.returns
-returns c =
-    let b = c.args.b.now in
-    rw (← formed _ _ _ _ c.number-request.ensures (c.operation-o.ensures ∙ ap operation_of c.get32.ensures.0) (named (search)) (not-false _ c.if-not-o.false) c.get64.ensures (take_all (length b - device_header_bytes) (device_name b) (omega (arith, length-drop device_header_bytes b))))
-    c.hear.ensures
-
 pub get32-requires : goal.get32-requires
 get32-requires c = omega (arith, name-long _ (named (search)))
 
 pub overflow_cast-get32 : goal.overflow_cast-get32
 overflow_cast-get32 c = omega (arith, c.get32.ensures.1)
+
+pub returns-in_default : goal.returns-in_default
+returns-in_default c =
+    rw (← no-type _ _ _ _ c.number-request.ensures (named (search)) (sym (c.operation.ensures ∙ ap operation_of c.get32.ensures.0) ∙ c.in_default.is)) (c.refuse-in_default.ensures _)
+
+pub returns : goal.returns
+returns c =
+    let b = c.args.b.now in
+    rw (← formed _ _ _ _ c.number-request.ensures (named (search)) (sym (c.operation.ensures ∙ ap operation_of c.get32.ensures.0) ∙ c.in-Some.is) c.get64.ensures (take_all (length b - device_header_bytes) (device_name b) (omega (arith, length-drop device_header_bytes b))))
+    c.hear.ensures

@@ -20,7 +20,6 @@ returns-then-b-le-DEVICE_HEADER_BYTES c = refute _ (λ t. let h = name-long _ t 
 is_byte : (c : (lts.After-shared_slice_known2 tie.the-claims reads.Pre reads.Post)) → let b = c.args.b.now in get_or b (length b - 1) 0 ≡ byte_at b (length b - 1)
 is_byte c =
     let b = c.args.b.now in
-    let below = c.shared_slice_known-2-1.given (length b - 1) in
     byte-at _ _ (omega arith)
 
 pub returns-then-b-last-ne0 : goal.returns-then-b-last-ne0

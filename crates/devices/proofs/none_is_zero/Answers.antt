@@ -4,6 +4,7 @@ use mathlib.Core.Bool.{not}
 use mathlib.Core.Path.{◌≡◌, refl, ◌∙◌}
 use Prim.Native.Nat.{◌+◌, ◌-◌}
 use native.Mathlib.Numerals.{add-one}
+use native.Mathlib.Nat.{le_antisymm}
 use native.Mathlib.Omega.{arith}
 use lib.ListN.{get_or}
 use lib.Dec.{eqb}
@@ -18,15 +19,12 @@ unfolding every
 loop-k-preserved c =
     let l = c.loop-k in
     let a = c.args in
-    let below = c.shared_slice_known-1.given (a.from + l.k) in
-    let is_byte : get_or a.b.now (a.from + l.k) 0 ≡ byte_at a.b.now (a.from + l.k) = byte-at _ _ (omega arith) in
-    (omega arith, both-pass l.none (not (eqb (get_or a.b.now (a.from + l.k) 0) 0)) ∙ rw (l.invariant.1, is_byte, add-one))
+    let is_byte : get_or a.b.now (a.from + l.k) 0 ≡ byte_at a.b.now (a.from + l.k) = byte-at _ _ (omega (arith, c.requires, c.loop-k-test.true)) in
+    both-pass l.none (not (eqb (get_or a.b.now (a.from + l.k) 0) 0)) ∙ rw (l.invariant, is_byte, add-one)
 
 pub returns : goal.returns
-returns c =
-    let past : c.loop-k.k ≡ c.args.n = omega (arith, c.loop-k.invariant.0, c.loop-k-test.false) in
-    c.loop-k.invariant.1 ∙ rw past
+returns c = rw (le_antisymm c.loop-k.auto.k-end c.loop-k-test.false) at c.loop-k.invariant
 
 pub loop-k-init : goal.loop-k-init
 unfolding every
-loop-k-init c = (omega arith, refl)
+loop-k-init c = refl
