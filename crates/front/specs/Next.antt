@@ -1,6 +1,6 @@
--- What a piece comes to behind a kept part that is unfinished, by the three numbers that the function tells.
+-- What a piece comes to behind a kept part that is unfinished: it is kept, or it gives a message.
 -- Assumes nothing.
-use Rattle.std.specs.Prelude.{ℕ, ◌+◌, ◌-◌, ◌≤◌, ◌≡◌, true, false, List, [], ◌++◌, length, take}
+use Rattle.std.specs.Prelude.{ℕ, ◌+◌, ◌-◌, ◌≤◌, ◌≡◌, true, List, [], ◌++◌, length, take, Option, Some, None}
 use Rattle.basics.specs.Choice.{pick}
 use Rattle.model.specs.Layout.{is_set}
 use Rattle.front.specs.declared.Next.{Next}
@@ -22,9 +22,9 @@ pub record Gives (p b : List ℕ) (end drops : ℕ) : Type 0 where
   pub most : end ≤ most_message
   pub mark : drops ≤ 1
 
-pub record Comes (p b : List ℕ) (r : Next) : Type 0 where
-  pub kept : r.given ≡ false → Keeps p b
-  pub gave : r.given ≡ true → Gives p b r.end r.dropping
+abbrev pub Comes : List ℕ → List ℕ → Option Next → Type 0
+Comes p b None = Keeps p b
+Comes p b (Some r) = Gives p b r.end r.dropping
 
 -- a channel of a sound front that drops no bytes, and a piece that is kept, or gives a message
 pub record Keeping (f : Front) (c : ℕ) (b : List ℕ) : Type 0 where

@@ -14,39 +14,12 @@ ghost use Rattle.front.specs.Changes.{Fronts, with_words};
 ghost use Rattle.front.specs.Answers.{given_piece, refused_piece};
 ghost use Rattle.front.specs.Next.{Comes, Giving, Keeping};
 ghost use Rattle.front.specs.Refusals.{lent_refusal, opening_refusal};
+ghost use Rattle.model.specs.Refusals.{refused_by};
 
 use front_model::{
     FrontBytes, FrontWords, MOST_KEPT, MOST_MESSAGE, PART_WORDS, Piece, dropping_of, kept_of,
 };
-use model::{
-    Answer, BAD_JOURNAL, CHANNEL_COUNT, DS_HEADER_BYTES, JOURNAL_WORDS, MOST_PAYLOAD, OUT_OF_RANGE,
-    OUTPUT_BYTES, SHORT_OUTPUT, State, UNSOUND,
-};
-
-// A proof has the length of a lent array from its loan as a slice alone, and so from these calls.
-fn count_words(words: &[u64]) -> usize
-    ensures { result ≡ length words.now }
-{
-    words.len()
-}
-
-fn count_bytes(bytes: &[u8]) -> usize
-    ensures { result ≡ length bytes.now }
-{
-    bytes.len()
-}
-
-fn word_count(words: &FrontWords) -> usize
-    ensures { (result ≡ front_words) × (length words.now ≡ front_words) }
-{
-    count_words(words)
-}
-
-fn byte_count(bytes: &FrontBytes) -> usize
-    ensures { (result ≡ front_bytes) × (length bytes.now ≡ front_bytes) }
-{
-    count_bytes(bytes)
-}
+use model::{Answer, CHANNEL_COUNT, DS_HEADER_BYTES, MOST_PAYLOAD, OUTPUT_BYTES, Refusal, State};
 
 // The first bytes of a channel's room.
 fn part_of(bytes: &[u8], channel: usize, count: usize) -> &[u8]
@@ -78,8 +51,6 @@ fn channel_sound(words: &FrontWords, bytes: &FrontBytes, channel: usize) -> bool
     requires { channel < channel_count }
     ensures { result ≡ front_sound_at (record { words = words.entry.now; bytes = bytes.now }) channel }
 {
-    // for the proof: the bytes' length
-    byte_count(bytes);
     let kept = kept_of(words, channel);
     if (MOST_KEPT as u64) < kept {
         return false;
@@ -94,18 +65,14 @@ fn channel_sound(words: &FrontWords, bytes: &FrontBytes, channel: usize) -> bool
     kept == 0
 }
 
-// The fronts of all channels, and for the proofs of callers the lengths.
+// The fronts of all channels.
 fn front_sound(words: &FrontWords, bytes: &FrontBytes) -> bool
-    ensures { (result ≡ front_sound (record { words = words.entry.now; bytes = bytes.now })) × (length words.entry.now ≡ front_words) × (length bytes.now ≡ front_bytes) }
+    ensures { result ≡ front_sound (record { words = words.entry.now; bytes = bytes.now }) }
 {
-    word_count(words);
-    byte_count(bytes);
-    let mut c: usize = 0;
-    while c < CHANNEL_COUNT {
+    for c in 0..CHANNEL_COUNT {
         if !channel_sound(words, bytes, c) {
             return false;
         }
-        c += 1;
     }
     true
 }
@@ -113,37 +80,30 @@ fn front_sound(words: &FrontWords, bytes: &FrontBytes) -> bool
 // Refusals.
 
 // Those of a piece where the front is sound; `within`: the channel is in range.
-fn lent_refusal(state: &State, words: usize, bytes: usize, within: bool) -> u64
-    ensures { result ≡ lent_refusal state.now words bytes within }
+fn check_lent(state: &State, words: usize, bytes: usize, within: bool) -> Result<(), Refusal>
+    ensures { refused_by result ≡ lent_refusal state.now words bytes within }
 {
-    let is_sound = soundness::sound(state);
-    if !is_sound {
-        return UNSOUND;
-    }
-    if words != JOURNAL_WORDS {
-        return BAD_JOURNAL;
-    }
+    soundness::check_lent(state, words)?;
     if bytes < OUTPUT_BYTES {
-        return SHORT_OUTPUT;
+        return Err(Refusal::ShortOutput);
     }
     if !within {
-        return OUT_OF_RANGE;
+        return Err(Refusal::OutOfRange);
     }
-    0
+    Ok(())
 }
 
 // Those of a reopening where the front is sound.
-fn reopen_refusal(state: &State, channel: usize) -> u64
-    ensures { result ≡ opening_refusal state.now channel }
+fn check_opening(state: &State, channel: usize) -> Result<(), Refusal>
+    ensures { refused_by result ≡ opening_refusal state.now channel }
 {
-    let is_sound = soundness::sound(state);
-    if !is_sound {
-        return UNSOUND;
+    if !soundness::sound(state) {
+        return Err(Refusal::Unsound);
     }
     if CHANNEL_COUNT <= channel {
-        return OUT_OF_RANGE;
+        return Err(Refusal::OutOfRange);
     }
-    0
+    Ok(())
 }
 
 // Changes.
@@ -162,11 +122,10 @@ pub fn reopen(words: &mut FrontWords, bytes: &FrontBytes, state: &State, channel
     ensures { ReopenPost (record { words = words.entry.now; bytes = bytes.now }) state.now channel result (record { words = words.exit.now; bytes = bytes.now }) }
 {
     if !front_sound(words, bytes) {
-        return UNSOUND;
+        return Refusal::Unsound.number();
     }
-    let refusal = reopen_refusal(state, channel);
-    if refusal != 0 {
-        return refusal;
+    if let Err(refusal) = check_opening(state, channel) {
+        return refusal.number();
     }
     set_words(words, channel, 0, 0);
     0
@@ -204,41 +163,35 @@ fn payload_len(part: &[u8], piece: &[u8]) -> u64
         + byte_at(part, piece, 7)
 }
 
-// What a piece comes to: whether a message is given, where it ends, and 1 where bytes are dropped after it.
+// Where a message that is given ends, and 1 where bytes are dropped after it.
 #[derive(Drop)]
 struct Next {
-    given: bool,
     end: usize,
     dropping: u64,
 }
 
-// "A call takes all bytes, to the end of one message at most": the ends are tested in the order of the bytes.
-fn next_of(part: &[u8], piece: &[u8]) -> Next
+// The message that a piece ends, if it ends one. "A call takes all bytes, to the end of one message at most": the ends
+// are tested in the order of the bytes.
+fn next_of(part: &[u8], piece: &[u8]) -> Option<Next>
     requires { (length part.now ≤ most_kept) × (unfinished part.now ≡ true) }
     ensures { Comes part.now piece.now result }
 {
     let count = part.len() + piece.len();
     if count < DS_HEADER_BYTES {
-        return Next {
-            given: false,
-            end: 0,
-            dropping: 0,
-        };
+        return None;
     }
     let payload_len = payload_len(part, piece) as usize;
     if MOST_PAYLOAD < payload_len {
-        return Next {
-            given: true,
+        return Some(Next {
             end: DS_HEADER_BYTES,
             dropping: 1,
-        };
+        });
     }
     let end = DS_HEADER_BYTES + payload_len;
-    Next {
-        given: end <= count,
-        end: end,
-        dropping: 0,
+    if count < end {
+        return None;
     }
+    Some(Next { end, dropping: 0 })
 }
 
 // Stores bytes from `at` on.
@@ -246,11 +199,7 @@ fn copy(bytes: &mut FrontBytes, at: usize, piece: &[u8])
     requires { at + length piece.now ≤ front_bytes }
     ensures { bytes.new ≡ sets bytes.old at piece.now }
 {
-    let mut i: usize = 0;
-    while i < piece.len() {
-        bytes[at + i] = piece[i];
-        i += 1;
-    }
+    bytes[at..at + piece.len()].copy_from_slice(piece);
 }
 
 // "the call is refused with the same number and has taken nothing"
@@ -258,7 +207,7 @@ fn refused(refusal: u64) -> Piece
     ensures { result ≡ refused_piece refusal }
 {
     Piece {
-        refusal: refusal,
+        refusal,
         taken: 0,
         given: false,
         length: 0,
@@ -295,7 +244,7 @@ fn given(answer: Answer, taken: usize) -> Piece
     }
     Piece {
         refusal: 0,
-        taken: taken,
+        taken,
         given: true,
         length: answer.length,
     }
@@ -314,9 +263,8 @@ fn drop_piece(
     requires { (Fronts (record { words = words.now; bytes = bytes.now }) channel) × (dropping_at (record { words = words.now; bytes = bytes.now }) channel ≡ 0 → ⊥) }
     ensures { PiecePost (record { words = words.entry.now; bytes = bytes.now }) state.now journal.now channel piece.now out.now result (record { words = words.entry.now; bytes = bytes.now }) state.now journal.now out.now }
 {
-    let refusal = lent_refusal(state, journal.len(), out.len(), true);
-    if refusal != 0 {
-        return refused(refusal);
+    if let Err(refusal) = check_lent(state, journal.len(), out.len(), true) {
+        return refused(refusal.number());
     }
     Piece {
         refusal: 0,
@@ -339,9 +287,8 @@ fn keep_piece(
     requires { Keeping (record { words = words.now; bytes = bytes.old }) channel piece.now }
     ensures { PiecePost (record { words = words.entry.now; bytes = bytes.old }) state.now journal.now channel piece.now out.now result (record { words = words.exit.now; bytes = bytes.new }) state.now journal.now out.now }
 {
-    let refusal = lent_refusal(state, journal.len(), out.len(), true);
-    if refusal != 0 {
-        return refused(refusal);
+    if let Err(refusal) = check_lent(state, journal.len(), out.len(), true) {
+        return refused(refusal.number());
     }
     let kept = kept_of(words, channel) as usize;
     copy(bytes, channel * MOST_MESSAGE + kept, piece);
@@ -395,9 +342,8 @@ fn give_joined(
     requires { Giving (record { words = words.now; bytes = bytes.old }) channel piece.now next.end next.dropping }
     ensures { PiecePost (record { words = words.entry.now; bytes = bytes.old }) state.old journal.old channel piece.now out.old result (record { words = words.exit.now; bytes = bytes.new }) state.new journal.new out.new }
 {
-    let refusal = soundness::action_refusal(state, journal.len(), out.len(), true, true);
-    if refusal != 0 {
-        return refused(refusal);
+    if let Err(refusal) = soundness::check_action(state, journal.len(), out.len(), true, true) {
+        return refused(refusal.number());
     }
     let kept = kept_of(words, channel) as usize;
     let end = next.end;
@@ -422,14 +368,23 @@ fn take_piece(
     ensures { PiecePost (record { words = words.entry.now; bytes = bytes.old }) state.old journal.old channel piece.now out.old result (record { words = words.exit.now; bytes = bytes.new }) state.new journal.new out.new }
 {
     let kept = kept_of(words, channel) as usize;
-    let next = next_of(part_of(bytes, channel, kept), piece);
-    if !next.given {
+    let Some(next) = next_of(part_of(bytes, channel, kept), piece) else {
         return keep_piece(words, bytes, state, channel, piece, journal, out);
-    }
+    };
     if kept == 0 {
         return give_whole(words, bytes, state, channel, piece, next, journal, out);
     }
     give_joined(words, bytes, state, channel, piece, next, journal, out)
+}
+
+// The number of the refusal that a test answers, 0 for none.
+fn number_of(tested: Result<(), Refusal>) -> u64
+    ensures { result ≡ refused_by tested }
+{
+    match tested {
+        Ok(()) => 0,
+        Err(refusal) => refusal.number(),
+    }
 }
 
 // Takes a piece of a channel's stream: the refusal, how many bytes were taken, whether a message was given to the agent, and the reply's length.
@@ -445,10 +400,10 @@ pub fn piece(
     ensures { PiecePost (record { words = words.entry.now; bytes = bytes.old }) state.old journal.old channel piece.now out.old result (record { words = words.exit.now; bytes = bytes.new }) state.new journal.new out.new }
 {
     if !front_sound(words, bytes) {
-        return refused(UNSOUND);
+        return refused(Refusal::Unsound.number());
     }
     if CHANNEL_COUNT <= channel {
-        return refused(lent_refusal(state, journal.len(), out.len(), false));
+        return refused(number_of(check_lent(state, journal.len(), out.len(), false)));
     }
     if dropping_of(words, channel) != 0 {
         return drop_piece(words, bytes, state, channel, piece, journal, out);
