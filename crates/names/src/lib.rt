@@ -33,10 +33,8 @@ fn whole_words(words: &[u64], from: usize, n: usize) -> bool
     ensures { result ≡ every n (λ q. whole_word (get_or words.now (from + q) 0)) }
 {
     let mut zeros: u64 = 0;
-    let mut q: usize = 0;
-    while q < n {
-        zeros = zeros | zero_bytes(words[from + q]);
-        q += 1;
+    for q in 0..n {
+        zeros |= zero_bytes(words[from + q]);
     }
     zeros == 0
 }
@@ -92,12 +90,10 @@ fn pass_words(words: &[u64], from: usize, n: usize, first: u64) -> Passed
 {
     let mut zeros: u64 = 0;
     let mut hash = first;
-    let mut q: usize = 0;
-    while q < n {
+    for q in 0..n {
         let word = words[from + q];
-        zeros = zeros | zero_bytes(word);
+        zeros |= zero_bytes(word);
         hash = mixed(hash, word);
-        q += 1;
     }
     Passed { zeros, hash }
 }
@@ -146,12 +142,10 @@ fn same_words(words: &[u64], a: usize, b: usize, n: usize) -> bool
     requires { (a + n ≤ length words.now) × (b + n ≤ length words.now) }
     ensures { result ≡ every n (λ q. same_bytes (get_or words.now (a + q) 0) (get_or words.now (b + q) 0)) }
 {
-    let mut q: usize = 0;
-    while q < n {
+    for q in 0..n {
         if words[a + q] != words[b + q] {
             return false;
         }
-        q += 1;
     }
     true
 }
@@ -213,12 +207,10 @@ fn has_bytes(words: &[u64], from: usize, n: usize, name: &[u8]) -> bool
     requires { (from + n ≤ length words.now) × (n * word_bytes < length name.now + word_bytes) }
     ensures { result ≡ every n (λ q. same_bytes (get_or words.now (from + q) 0) (number_at name.now (q * word_bytes) word_bytes)) }
 {
-    let mut q: usize = 0;
-    while q < n {
+    for q in 0..n {
         if words[from + q] != word_at(name, q * WORD_BYTES) {
             return false;
         }
-        q += 1;
     }
     true
 }

@@ -10,15 +10,15 @@ use Rattle.names.proofs.pass_words.Goals as goal
 
 pub loop-q-preserved : goal.loop-q-preserved
 unfolding every mixed_words
-loop-q-preserved c = let l = c.before.before.before.before.loop-q in
-    let z = c.before.zero_bytes-zeros in
-    (omega arith, or-none l.zeros z.result ∙ rw (l.invariant.1, z.ensures, add-one), c.mixed-hash.ensures ∙ rw (l.invariant.2, add-one))
+loop-q-preserved c = let l = c.loop-q in
+    let z = c.zero_bytes-zeros in
+    (or-none l.zeros z.result ∙ rw (l.invariant.0, z.ensures, add-one), c.mixed-hash.ensures ∙ rw (l.invariant.1, add-one))
 
 pub returns : goal.returns
-returns c = let l = c.before.loop-q in
-    let past : l.q ≡ c.before.before.before.args.n = omega (arith, l.invariant.0, c.loop-q-test.false) in
-    (l.invariant.1 ∙ rw past, l.invariant.2 ∙ rw past)
+returns c = let l = c.loop-q in
+    let past : l.q ≡ c.args.n = omega (arith, l.auto.q-end, c.loop-q-test.false) in
+    (l.invariant.0 ∙ rw past, l.invariant.1 ∙ rw past)
 
 pub loop-q-init : goal.loop-q-init
 unfolding every mixed_words
-loop-q-init c = (omega arith, refl, refl)
+loop-q-init c = (refl, refl)

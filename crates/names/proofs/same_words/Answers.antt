@@ -8,19 +8,17 @@ use Rattle.names.proofs.same_words.Goals as goal
 
 pub returns-then-words-a : goal.returns-then-words-a
 returns-then-words-a c =
-    let k = c.before.before.shared_slice_known-1.given in
-    let t = c.before.before.before in
-    let l = t.before.loop-q in
-    let a = t.before.before.args in
-    every-fails _ _ _ t.loop-q-test.true (words-differ _ _ (omega (arith, k (a.a + l.q))) (omega (arith, k (a.b + l.q))) c.if-words-a.true)
+    let k = c.shared_slice_known-1.given in
+    let l = c.loop-q in
+    every-fails _ _ _ c.loop-q-test.true (words-differ _ _ (omega (arith, k (c.args.a + l.q))) (omega (arith, k (c.args.b + l.q))) c.if-words-a.true)
 
 pub loop-q-preserved : goal.loop-q-preserved
 loop-q-preserved c =
-    let l = c.before.before.before.before.loop-q in
-    (omega arith, every_more _ _ l.invariant.1 (words_same _ _ c.if-words-a.false))
+    let l = c.loop-q in
+    every_more _ _ l.invariant (words_same _ _ c.if-words-a.false)
 
 pub returns : goal.returns
-returns c = every-all _ _ _ c.before.loop-q.invariant.0 c.loop-q-test.false c.before.loop-q.invariant.1
+returns c = every-all _ _ _ c.loop-q.auto.q-end c.loop-q-test.false c.loop-q.invariant
 
 pub loop-q-init : goal.loop-q-init
-loop-q-init c = (omega arith, every-none _)
+loop-q-init c = every-none _

@@ -10,14 +10,14 @@ use Rattle.names.proofs.whole_words.Goals as goal
 pub loop-q-preserved : goal.loop-q-preserved
 unfolding every
 loop-q-preserved c =
-    let l = c.before.before.before.loop-q in
-    (omega arith, or-none l.zeros c.zero_bytes-zeros.result ∙ rw (l.invariant.1, c.zero_bytes-zeros.ensures, add-one))
+    let l = c.loop-q in
+    or-none l.zeros c.zero_bytes-zeros.result ∙ rw (l.invariant, c.zero_bytes-zeros.ensures, add-one)
 
 pub returns : goal.returns
 returns c =
-    let past : c.before.loop-q.q ≡ c.before.before.before.args.n = omega (arith, c.before.loop-q.invariant.0, c.loop-q-test.false) in
-    c.before.loop-q.invariant.1 ∙ rw past
+    let past : c.loop-q.q ≡ c.args.n = omega (arith, c.loop-q.auto.q-end, c.loop-q-test.false) in
+    c.loop-q.invariant ∙ rw past
 
 pub loop-q-init : goal.loop-q-init
 unfolding every
-loop-q-init c = (omega arith, refl)
+loop-q-init c = refl

@@ -1,7 +1,7 @@
 -- `names::whole_words` meets its contract: no bit is set for the words passed exactly where none of their bytes is 0.
 -- Assumes nothing.
 use mathlib.Core.Path.{◌≡◌}
-use Prim.Native.Nat.{◌+◌, ◌≤◌, ◌-◌}
+use Prim.Native.Nat.{◌+◌}
 use lib.ListN.{get_or}
 use lib.Dec.{eqb}
 use Rattle.basics.specs.Choice.{every}
@@ -9,7 +9,4 @@ use Rattle.names.specs.NameWords.{whole_word}
 use Rattle.names.proofs.whole_words.Given as goal
 
 abbrev pub invariant-loop-q : goal.invariant-loop-q
-invariant-loop-q l = (l.q ≤ l.n) × (eqb l.zeros 0 ≡ every l.q (λ j. whole_word (get_or l.words (l.from + j) 0)))
-
-abbrev pub decreases-loop-q : goal.decreases-loop-q
-decreases-loop-q l = l.n - l.q
+invariant-loop-q l = eqb l.zeros 0 ≡ every l.q (λ j. whole_word (get_or l.words (l.from + j) 0))
