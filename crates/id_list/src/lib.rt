@@ -42,14 +42,12 @@ fn id_apart(words: &[u64], at: usize, p: usize) -> bool
 {
     let d = at + p * ID_WORDS;
     let n = words[d + ID_BYTES_PLACE] as usize;
-    let mut q: usize = 0;
-    while q < p {
+    for q in 0..p {
         let e = at + q * ID_WORDS;
         let m = words[e + ID_BYTES_PLACE] as usize;
         if names::same_names(words, e + ID_PLACE, m, d + ID_PLACE, n) {
             return false;
         }
-        q += 1;
     }
     true
 }
@@ -58,12 +56,10 @@ fn each_apart(words: &[u64], at: usize, n: usize) -> bool
     requires { (at + n * id_words ≤ length words.now) × (every n (id_keeps words.now at) ≡ true) }
     ensures { result ≡ every n (id_apart words.now at) }
 {
-    let mut p: usize = 0;
-    while p < n {
+    for p in 0..n {
         if !id_apart(words, at, p) {
             return false;
         }
-        p += 1;
     }
     true
 }
@@ -84,8 +80,7 @@ fn each_keeps(words: &[u64], at: usize, n: usize, hashes: &mut Hashes) -> bool
     requires { (n ≤ most_ids) × (at + n * id_words ≤ length words.now) × (length hashes.old ≡ 2 * most_ids) }
     ensures { (result ≡ every n (id_keeps words.now at)) × (result ≡ true → HashesStand words.now at n hashes.new) }
 {
-    let mut p: usize = 0;
-    while p < n {
+    for p in 0..n {
         let id = hashed_id(words, at, p);
         let keeps = id.keeps;
         if !keeps {
@@ -94,7 +89,6 @@ fn each_keeps(words: &[u64], at: usize, n: usize, hashes: &mut Hashes) -> bool
         let hash = folded(id.hash);
         hashes[p] = hash;
         hashes[p + MOST_IDS] = hash;
-        p += 1;
     }
     true
 }
@@ -105,10 +99,8 @@ fn apart_at(hashes: &Hashes, distance: usize) -> bool
     ensures { result ≡ apart_at hashes.now distance }
 {
     let mut apart = true;
-    let mut k: usize = 0;
-    while k < MOST_IDS {
+    for k in 0..MOST_IDS {
         apart = apart & (hashes[k] != hashes[k + distance]);
-        k += 1;
     }
     apart
 }
@@ -118,10 +110,8 @@ fn hashes_apart(hashes: &Hashes) -> bool
     ensures { result ≡ hashes_apart hashes.now }
 {
     let mut apart = true;
-    let mut d: usize = 0;
-    while d < MOST_IDS / 2 {
+    for d in 0..MOST_IDS / 2 {
         apart = apart & apart_at(hashes, d + 1);
-        d += 1;
     }
     apart
 }
@@ -131,11 +121,9 @@ fn first_hashes() -> Hashes
     ensures { length result ≡ 2 * most_ids }
 {
     let mut hashes: Hashes = [0; 2 * MOST_IDS];
-    let mut p: usize = 0;
-    while p < MOST_IDS {
+    for p in 0..MOST_IDS {
         hashes[p] = p as u32;
         hashes[p + MOST_IDS] = p as u32;
-        p += 1;
     }
     hashes
 }
@@ -192,14 +180,12 @@ pub fn listed_id(state: &State, id: &[u8]) -> Option<usize>
     ensures { result ≡ listed_id state.now id.now }
 {
     let count = state[ID_COUNT_WORD] as usize;
-    let mut p: usize = 0;
-    while p < count {
+    for p in 0..count {
         let d = FIRST_ID_WORD + p * ID_WORDS;
         let n = state[d + ID_BYTES_PLACE] as usize;
         if names::has_name(state, d + ID_PLACE, n, id) {
             return Some(p);
         }
-        p += 1;
     }
     None
 }

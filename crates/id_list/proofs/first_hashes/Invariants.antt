@@ -7,7 +7,4 @@ use Rattle.model.specs.Layout.{most_ids}
 use Rattle.id_list.proofs.first_hashes.Given as goal
 
 abbrev pub invariant-loop-p : goal.invariant-loop-p
-invariant-loop-p l = (l.p ≤ most_ids) × (length l.hashes ≡ 2 * most_ids)
-
-abbrev pub decreases-loop-p : goal.decreases-loop-p
-decreases-loop-p l = most_ids - l.p
+invariant-loop-p l = length l.hashes ≡ 2 * most_ids

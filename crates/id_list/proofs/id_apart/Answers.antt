@@ -41,11 +41,11 @@ returns-then-same_names c =
 
 pub loop-q-preserved : goal.loop-q-preserved
 loop-q-preserved c =
-    (omega arith, every_more _ _ c.loop-q.invariant.1 (ap not (same (search) ∙ c.if-same_names.false)))
+    every_more _ _ c.loop-q.invariant (ap not (same (search) ∙ c.if-same_names.false))
 
 pub returns : goal.returns
 unfolding id_apart
-returns c = let l = c.loop-q in every-all _ _ _ l.invariant.0 c.loop-q-test.false l.invariant.1
+returns c = let l = c.loop-q in every-all _ _ _ l.auto.q-end c.loop-q-test.false l.invariant
 
 pub loop-q-init : goal.loop-q-init
-loop-q-init c = (omega arith, every-none _)
+loop-q-init c = every-none _

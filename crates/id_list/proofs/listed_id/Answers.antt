@@ -33,21 +33,21 @@ same c = sym (id_same _ _ _ _) ∙ sym c.has_name.ensures
 pub returns-then-has_name : goal.returns-then-has_name
 unfolding listed_id
 returns-then-has_name c =
-    found_here _ _ _ c.loop-p.invariant.1 c.loop-p-test.true (same (search) ∙ c.if-has_name.true)
+    found_here _ _ _ c.loop-p.invariant c.loop-p-test.true (same (search) ∙ c.if-has_name.true)
 
 pub overflow_add-p : goal.overflow_add-p
 overflow_add-p c = omega (arith, (all-rules (search)).few)
 
 pub loop-p-preserved : goal.loop-p-preserved
 loop-p-preserved c =
-    (omega arith, none_more _ _ c.loop-p.invariant.1 (same (search) ∙ c.if-has_name.false))
+    none_more _ _ c.loop-p.invariant (same (search) ∙ c.if-has_name.false)
 
 pub returns : goal.returns
 unfolding listed_id
-returns c = found_nowhere _ _ _ c.loop-p.invariant.1 c.loop-p-test.false
+returns c = found_nowhere _ _ _ c.loop-p.invariant c.loop-p-test.false
 
 pub loop-p-init : goal.loop-p-init
-loop-p-init c = (omega arith, none_first _)
+loop-p-init c = none_first _
 
 pub overflow_mul-d : goal.overflow_mul-d
 overflow_mul-d c = omega (arith, (all-rules (search)).few)

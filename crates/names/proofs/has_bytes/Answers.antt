@@ -11,7 +11,7 @@ use Rattle.names.proofs.has_bytes.Goals as goal
 
 pub returns-then-words-from : goal.returns-then-words-from
 returns-then-words-from c =
-    let k = c.shared_slice_known-in-loop-q-1.given in
+    let k = c.type_inv.words in
     let l = c.loop-q in
     every-fails _ _ _ c.loop-q-test.true
     (words-differ _ _ (omega (arith, k (c.args.from + l.q))) (number_bound _ _ word_bytes) (λ e. c.if-words-from.true (e ∙ sym c.word_at.ensures)))

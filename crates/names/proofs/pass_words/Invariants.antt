@@ -9,5 +9,5 @@ use Rattle.names.specs.NameWords.{whole_word}
 use Rattle.names.specs.Hashes.{mixed_words}
 use Rattle.names.proofs.pass_words.Given as goal
 
-abbrev pub invariant-loop-q : goal.invariant-loop-q
-invariant-loop-q l = (eqb l.zeros 0 ≡ every l.q (λ j. whole_word (get_or l.words (l.from + j) 0))) × (l.hash ≡ mixed_words l.words l.from l.first l.q)
+abbrev pub invariant-loop-word : goal.invariant-loop-word
+invariant-loop-word l = (eqb l.zeros 0 ≡ every l.word-index (λ j. whole_word (get_or l.words (l.from + j) 0))) × (l.hash ≡ mixed_words l.words l.from l.first l.word-index)

@@ -8,5 +8,5 @@ use Rattle.basics.specs.Choice.{every}
 use Rattle.names.specs.NameWords.{whole_word}
 use Rattle.names.proofs.whole_words.Given as goal
 
-abbrev pub invariant-loop-q : goal.invariant-loop-q
-invariant-loop-q l = eqb l.zeros 0 ≡ every l.q (λ j. whole_word (get_or l.words (l.from + j) 0))
+abbrev pub invariant-loop-w : goal.invariant-loop-w
+invariant-loop-w l = eqb l.zeros 0 ≡ every l.w-index (λ j. whole_word (get_or l.words (l.from + j) 0))
