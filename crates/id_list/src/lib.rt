@@ -1,8 +1,8 @@
 // "up to 16 different ids, at most 32 bytes with the zero, that the host lists at setup": the rules of an id list, and the listed id that has given bytes.
 #![tactic(auto)]
 
-ghost use Rattle.std.specs.Prelude.{◌≡◌, true, ◌+◌, ◌*◌, ◌≤◌, ◌<◌, length};
-ghost use Rattle.basics.specs.Choice.{every};
+ghost use Rattle.std.specs.Prelude.{◌≡◌, true, ◌+◌, ◌*◌, ◌≤◌, ◌<◌, length, Some, None};
+ghost use Rattle.basics.specs.Choice.{every, pick};
 ghost use Rattle.model.specs.Layout.{first_id_word, id_at, ids_of, id_words, most_ids};
 ghost use Rattle.model.specs.Peers.{accepted_ids, id_apart, id_keeps, ids_keep, listed_id};
 ghost use Rattle.id_list.specs.Hashes.{HashesStand, apart_at, folded, hash_in, hashes_apart};
@@ -11,25 +11,18 @@ use model::{
     FIRST_ID_WORD, HIGHEST_MINOR, ID_BYTES_PLACE, ID_COUNT_WORD, ID_MINOR_PLACE, ID_PLACE,
     ID_WORDS, MOST_ID_BYTES, MOST_IDS, State,
 };
-use names::Hashed;
 
-// The rules of one id: a major and a highest minor of 16 bits, and its bytes. With its hash.
-fn hashed_id(words: &[u64], at: usize, p: usize) -> Hashed
+// The hash of an id that keeps the rules: a major and a highest minor of 16 bits, and its bytes.
+fn hashed_id(words: &[u64], at: usize, p: usize) -> Option<u64>
     requires { at + p * id_words + id_words ≤ length words.now }
-    ensures { (result.keeps ≡ id_keeps words.now at p) × (result.keeps ≡ true → result.hash ≡ hash_in words.now at p) }
+    ensures { result ≡ pick (id_keeps words.now at p) (Some (hash_in words.now at p)) None }
 {
     let d = at + p * ID_WORDS;
     if HIGHEST_MINOR < words[d] {
-        return Hashed {
-            keeps: false,
-            hash: 0,
-        };
+        return None;
     }
     if HIGHEST_MINOR < words[d + ID_MINOR_PLACE] {
-        return Hashed {
-            keeps: false,
-            hash: 0,
-        };
+        return None;
     }
     let n = words[d + ID_BYTES_PLACE] as usize;
     names::hashed_name(words, d + ID_PLACE, n, MOST_ID_BYTES)
@@ -81,12 +74,10 @@ fn each_keeps(words: &[u64], at: usize, n: usize, hashes: &mut Hashes) -> bool
     ensures { (result ≡ every n (id_keeps words.now at)) × (result ≡ true → HashesStand words.now at n hashes.new) }
 {
     for p in 0..n {
-        let id = hashed_id(words, at, p);
-        let keeps = id.keeps;
-        if !keeps {
+        let Some(whole) = hashed_id(words, at, p) else {
             return false;
-        }
-        let hash = folded(id.hash);
+        };
+        let hash = folded(whole);
         hashes[p] = hash;
         hashes[p + MOST_IDS] = hash;
     }
@@ -100,7 +91,7 @@ fn apart_at(hashes: &Hashes, distance: usize) -> bool
 {
     let mut apart = true;
     for k in 0..MOST_IDS {
-        apart = apart & (hashes[k] != hashes[k + distance]);
+        apart &= hashes[k] != hashes[k + distance];
     }
     apart
 }
@@ -111,7 +102,7 @@ fn hashes_apart(hashes: &Hashes) -> bool
 {
     let mut apart = true;
     for d in 0..MOST_IDS / 2 {
-        apart = apart & apart_at(hashes, d + 1);
+        apart &= apart_at(hashes, d + 1);
     }
     apart
 }

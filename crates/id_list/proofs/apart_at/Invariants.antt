@@ -2,11 +2,10 @@
 -- Assumes nothing.
 use mathlib.Core.Bool.{not}
 use mathlib.Core.Path.{◌≡◌}
-use Prim.Native.Nat.{◌+◌, ◌≤◌, ◌-◌}
+use Prim.Native.Nat.{◌+◌}
 use lib.ListN.{get_or}
 use lib.Dec.{eqb}
 use Rattle.basics.specs.Choice.{every}
-use Rattle.model.specs.Layout.{most_ids}
 use Rattle.id_list.proofs.apart_at.Given as goal
 
 abbrev pub invariant-loop-k : goal.invariant-loop-k

@@ -1,8 +1,6 @@
 -- `id_list::first_hashes` meets its contract: what is written stands within the hashes.
 -- Assumes nothing.
-use native.Mathlib.Omega.{arith}
 use mathlib.Core.Path.{refl}
-use Prim.Native.Nat.{◌-◌}
 use lib.ListN.{length-set}
 use Rattle.id_list.proofs.first_hashes.Goals as goal
 

@@ -1,7 +1,7 @@
 -- `id_list::first_hashes` meets its contract: what is written stands within the hashes.
 -- Assumes nothing.
 use mathlib.Core.Path.{◌≡◌}
-use Prim.Native.Nat.{◌*◌, ◌≤◌, ◌-◌}
+use Prim.Native.Nat.{◌*◌}
 use lib.ListN.{length}
 use Rattle.model.specs.Layout.{most_ids}
 use Rattle.id_list.proofs.first_hashes.Given as goal

@@ -1,9 +1,8 @@
 -- `id_list::hashes_apart` meets its contract: no hash is the one at a distance passed.
 -- Assumes nothing.
 use mathlib.Core.Path.{◌≡◌}
-use Prim.Native.Nat.{◌+◌, ◌/◌, ◌≤◌, ◌-◌}
+use Prim.Native.Nat.{◌+◌}
 use Rattle.basics.specs.Choice.{every}
-use Rattle.model.specs.Layout.{most_ids}
 use Rattle.id_list.specs.Hashes.{apart_at}
 use Rattle.id_list.proofs.hashes_apart.Given as goal
 

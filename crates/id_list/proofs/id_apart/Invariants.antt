@@ -2,7 +2,6 @@
 -- Assumes nothing.
 use mathlib.Core.Bool.{true, not}
 use mathlib.Core.Path.{◌≡◌}
-use Prim.Native.Nat.{◌≤◌, ◌-◌}
 use Rattle.basics.specs.Choice.{every}
 use Rattle.model.specs.Devices.{same_name}
 use Rattle.model.specs.Layout.{id_in}

@@ -1,6 +1,5 @@
 -- `id_list::listed_id` meets its contract: no id passed has the bytes.
 -- Assumes nothing.
-use Prim.Native.Nat.{◌≤◌, ◌-◌}
 use Rattle.model.specs.Devices.{same_name}
 use Rattle.model.specs.Layout.{first_id_word, id_in}
 use Rattle.basics.proofs.Loops.{NoneBelow}
