@@ -77,8 +77,7 @@ fn keep_rules(words: &[u64], at: usize, n: usize) -> bool
     ensures { result ≡ every n (λ i. block_keeps (block_in words.now at i) (end_before words.now at i)) }
 {
     let mut floor: u64 = 0;
-    let mut i: usize = 0;
-    while i < n {
+    for i in 0..n {
         let b = at + i * BLOCK_WORDS;
         let base = words[b];
         let pages = words[b + PAGES_PLACE];
@@ -93,7 +92,6 @@ fn keep_rules(words: &[u64], at: usize, n: usize) -> bool
             return false;
         }
         floor = base + pages * PAGE_SIZE;
-        i += 1;
     }
     true
 }
@@ -136,7 +134,7 @@ fn found_at(pages: u64, size: u64, place: usize) -> Option<usize>
 }
 
 // "look for each record by halves, and return which blocks were looked at, in order, each the (lower) middle of those left": `left` blocks
-// are, from `low` on.
+// are, from `low` on. No index loop: each turn leaves half of them. The array and its count are the list of places without a heap.
 pub fn look_for(state: &State, addr: u64, size: u64) -> Searched
     requires { BlocksInOrder state.now }
     ensures { Tells (search_of state.now addr size) result }
@@ -155,8 +153,8 @@ pub fn look_for(state: &State, addr: u64, size: u64) -> Searched
         if base == addr {
             return Searched {
                 found: found_at(state[b + PAGES_PLACE], size, middle),
-                looked: looked,
-                count: count,
+                looked,
+                count,
             };
         }
         if base < addr {
@@ -168,8 +166,8 @@ pub fn look_for(state: &State, addr: u64, size: u64) -> Searched
     }
     Searched {
         found: None,
-        looked: looked,
-        count: count,
+        looked,
+        count,
     }
 }
 

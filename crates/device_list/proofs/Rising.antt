@@ -1,10 +1,10 @@
 -- Ids that rise differ, and devices whose ids differ are apart.
 -- Assumes nothing.
-use mathlib.Core.Bool.{Bool, true, not}
+use mathlib.Core.Bool.{Bool, true, not, ◌&&◌}
 use mathlib.Core.List.{List}
 use mathlib.Core.Logic.{⊎_elim}
-use mathlib.Core.Path.{◌≡◌, ap}
-use Prim.Native.Nat.{ℕ, zero, suc, ◌+◌, ◌-◌, ◌*◌, ◌<◌}
+use mathlib.Core.Path.{◌≡◌, ap, sym, ◌∙◌}
+use Prim.Native.Nat.{ℕ, zero, suc, ◌+◌, ◌-◌, ◌*◌, ◌<◌, ◌≤◌}
 use native.Mathlib.Nat.{eq-or-lt_of_le, le_of_suc-le-suc}
 use native.Mathlib.Numerals.{add-one}
 use native.Mathlib.Omega.{arith}
@@ -15,12 +15,28 @@ use Rattle.basics.specs.Choice.{◌and◌, every}
 use Rattle.model.specs.Devices.{device_apart, is_device}
 use Rattle.model.specs.Layout.{device_in, device_words}
 use Rattle.basics.proofs.Choice.{and-false, every-at, every-make}
+use Rattle.names.proofs.Bytes.{both-pass}
 use Rattle.device_list.specs.Rising.{ids_rise}
 
 -- one test more
 pub every-next : (f : ℕ → Bool) (j : ℕ) → every (j + 1) f ≡ (every j f and f j)
 unfolding every
 every-next f j = rw add-one
+
+-- ids that rise as far as id j - 1, and id j above that one
+pub rises-next : (l : List ℕ) (at j : ℕ) (r : Bool) → 1 ≤ j
+    → r ≡ every (j - 1) (λ k. ltb (get_or l (at + k * device_words) 0) (get_or l (at + (k + 1) * device_words) 0))
+    → (r && ltb (get_or l (at + (j - 1) * device_words) 0) (get_or l (at + j * device_words) 0))
+    ≡ every (j + 1 - 1) (λ k. ltb (get_or l (at + k * device_words) 0) (get_or l (at + (k + 1) * device_words) 0))
+rises-next l at j r h e =
+    let f : ℕ → Bool = λ k. ltb (get_or l (at + k * device_words) 0) (get_or l (at + (k + 1) * device_words) 0) in
+    let back : j ≡ j - 1 + 1 = omega arith in
+    let next : j - 1 + 1 ≡ j + 1 - 1 = omega arith in
+    both-pass r (ltb (get_or l (at + (j - 1) * device_words) 0) (get_or l (at + j * device_words) 0))
+    ∙ ap (λ b. b and ltb (get_or l (at + (j - 1) * device_words) 0) (get_or l (at + j * device_words) 0)) e
+    ∙ ap (λ k. every (j - 1) f and ltb (get_or l (at + (j - 1) * device_words) 0) (get_or l (at + k * device_words) 0)) back
+    ∙ sym (every-next f (j - 1))
+    ∙ ap (λ k. every k f) next
 
 -- device i, whose id no device before it has
 pub ids-apart : (l : List ℕ) (at i : ℕ) → every i (λ j. not (eqb (device_in l at j).id (device_in l at i).id)) ≡ true → device_apart l at i ≡ true

@@ -36,12 +36,10 @@ fn each_keeps(words: &[u64], at: usize, n: usize) -> bool
     requires { at + n * device_words ≤ length words.now }
     ensures { result ≡ every n (device_keeps words.now at) }
 {
-    let mut i: usize = 0;
-    while i < n {
+    for i in 0..n {
         if !device_keeps(words, at, i) {
             return false;
         }
-        i += 1;
     }
     true
 }
@@ -68,10 +66,8 @@ fn id_apart(words: &[u64], at: usize, i: usize) -> bool
 {
     let id = words[at + i * DEVICE_WORDS];
     let mut apart = true;
-    let mut j: usize = 0;
-    while j < i {
-        apart = apart & (words[at + j * DEVICE_WORDS] != id);
-        j += 1;
+    for j in 0..i {
+        apart &= words[at + j * DEVICE_WORDS] != id;
     }
     apart
 }
@@ -81,12 +77,10 @@ fn name_apart(words: &[u64], at: usize, i: usize) -> bool
     requires { (at + i * device_words + device_words ≤ length words.now) × (every (i + 1) (device_keeps words.now at) ≡ true) }
     ensures { result ≡ device_apart words.now at i }
 {
-    let mut j: usize = 0;
-    while j < i {
+    for j in 0..i {
         if same_device(words, at, i, j) {
             return false;
         }
-        j += 1;
     }
     true
 }
@@ -106,12 +100,10 @@ fn each_apart(words: &[u64], at: usize, n: usize) -> bool
     requires { (at + n * device_words ≤ length words.now) × (every n (device_keeps words.now at) ≡ true) }
     ensures { result ≡ every n (device_apart words.now at) }
 {
-    let mut i: usize = 0;
-    while i < n {
+    for i in 0..n {
         if !device_apart(words, at, i) {
             return false;
         }
-        i += 1;
     }
     true
 }
@@ -122,10 +114,8 @@ fn ids_rise(words: &[u64], at: usize, n: usize) -> bool
     ensures { result ≡ ids_rise words.now at n }
 {
     let mut rise = true;
-    let mut j: usize = 0;
-    while j + 1 < n {
-        rise = rise & (words[at + j * DEVICE_WORDS] < words[at + (j + 1) * DEVICE_WORDS]);
-        j += 1;
+    for j in 1..n {
+        rise &= words[at + (j - 1) * DEVICE_WORDS] < words[at + j * DEVICE_WORDS];
     }
     rise
 }
@@ -196,12 +186,10 @@ pub fn named_device(state: &State, id: u64, name: &[u8]) -> Option<usize>
     ensures { result ≡ named_device state.now id name.now }
 {
     let count = state[DEVICE_COUNT_WORD] as usize;
-    let mut i: usize = 0;
-    while i < count {
+    for i in 0..count {
         if is_device(state, FIRST_DEVICE_WORD, i, id, name) {
             return Some(i);
         }
-        i += 1;
     }
     None
 }

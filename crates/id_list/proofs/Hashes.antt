@@ -10,7 +10,8 @@ use lib.ListN.{length, get_or, set, length-set}
 use lib.Seq.{get_or-set_same, get_or-set_other}
 use lib.Dec.{eqb, leb}
 use borrow.Author.Tests.{eqb-true, eqb-false, leb-true, leb-false, not-true}
-use Rattle.basics.specs.Choice.{every}
+use Rattle.std.specs.Prelude.{Option, Some, None}
+use Rattle.basics.specs.Choice.{every, pick, is_found}
 use Rattle.model.specs.Layout.{id_bytes_in, id_in, most_ids, word_bytes}
 use Rattle.model.specs.Devices.{same_name}
 use Rattle.model.specs.Peers.{id_apart, id_keeps}
@@ -29,6 +30,21 @@ alike {b} v w t f = go (eqb v w) refl
     go : (d : Bool) → eqb v w ≡ d → v ≡ w
     go true e = eqb-true v w e
     go false e = absurd (clash b (f (eqb-false v w e)) t)
+
+-- what is there only under a test
+pub there : (b : Bool) (x v : ℕ) → Some v ≡ pick b (Some x) None → (b ≡ true) × (v ≡ x)
+unfolding pick is_found
+there true x v e = (refl, ap held e)
+  where
+    held : Option ℕ → ℕ
+    held (Some k) = k
+    held None = 0
+there false x v e = absurd (clash false refl (sym (ap is_found e)))
+
+pub not_there : (b : Bool) (x : ℕ) → None ≡ pick b (Some x) None → b ≡ false
+unfolding pick is_found
+not_there true x e = absurd (clash false refl (ap is_found e))
+not_there false x e = refl
 
 -- one hash more
 module _ (l : List ℕ) (at p : ℕ) (hashes : List ℕ) (v : ℕ) (long : length hashes ≡ 2 * most_ids) (few : p < most_ids) (m : HashesStand l at p hashes) (e : v ≡ folded (hash_in l at p)) where

@@ -1,8 +1,8 @@
 // "up to 16 different ids, at most 32 bytes with the zero, that the host lists at setup": the rules of an id list, and the listed id that has given bytes.
 #![tactic(auto)]
 
-ghost use Rattle.std.specs.Prelude.{◌≡◌, true, ◌+◌, ◌*◌, ◌≤◌, ◌<◌, length};
-ghost use Rattle.basics.specs.Choice.{every};
+ghost use Rattle.std.specs.Prelude.{◌≡◌, true, ◌+◌, ◌*◌, ◌≤◌, ◌<◌, length, Some, None};
+ghost use Rattle.basics.specs.Choice.{every, pick};
 ghost use Rattle.model.specs.Layout.{first_id_word, id_at, ids_of, id_words, most_ids};
 ghost use Rattle.model.specs.Peers.{accepted_ids, id_apart, id_keeps, ids_keep, listed_id};
 ghost use Rattle.id_list.specs.Hashes.{HashesStand, apart_at, folded, hash_in, hashes_apart};
@@ -11,25 +11,18 @@ use model::{
     FIRST_ID_WORD, HIGHEST_MINOR, ID_BYTES_PLACE, ID_COUNT_WORD, ID_MINOR_PLACE, ID_PLACE,
     ID_WORDS, MOST_ID_BYTES, MOST_IDS, State,
 };
-use names::Hashed;
 
-// The rules of one id: a major and a highest minor of 16 bits, and its bytes. With its hash.
-fn hashed_id(words: &[u64], at: usize, p: usize) -> Hashed
+// The hash of an id that keeps the rules: a major and a highest minor of 16 bits, and its bytes.
+fn hashed_id(words: &[u64], at: usize, p: usize) -> Option<u64>
     requires { at + p * id_words + id_words ≤ length words.now }
-    ensures { (result.keeps ≡ id_keeps words.now at p) × (result.keeps ≡ true → result.hash ≡ hash_in words.now at p) }
+    ensures { result ≡ pick (id_keeps words.now at p) (Some (hash_in words.now at p)) None }
 {
     let d = at + p * ID_WORDS;
     if HIGHEST_MINOR < words[d] {
-        return Hashed {
-            keeps: false,
-            hash: 0,
-        };
+        return None;
     }
     if HIGHEST_MINOR < words[d + ID_MINOR_PLACE] {
-        return Hashed {
-            keeps: false,
-            hash: 0,
-        };
+        return None;
     }
     let n = words[d + ID_BYTES_PLACE] as usize;
     names::hashed_name(words, d + ID_PLACE, n, MOST_ID_BYTES)
@@ -42,14 +35,12 @@ fn id_apart(words: &[u64], at: usize, p: usize) -> bool
 {
     let d = at + p * ID_WORDS;
     let n = words[d + ID_BYTES_PLACE] as usize;
-    let mut q: usize = 0;
-    while q < p {
+    for q in 0..p {
         let e = at + q * ID_WORDS;
         let m = words[e + ID_BYTES_PLACE] as usize;
         if names::same_names(words, e + ID_PLACE, m, d + ID_PLACE, n) {
             return false;
         }
-        q += 1;
     }
     true
 }
@@ -58,12 +49,10 @@ fn each_apart(words: &[u64], at: usize, n: usize) -> bool
     requires { (at + n * id_words ≤ length words.now) × (every n (id_keeps words.now at) ≡ true) }
     ensures { result ≡ every n (id_apart words.now at) }
 {
-    let mut p: usize = 0;
-    while p < n {
+    for p in 0..n {
         if !id_apart(words, at, p) {
             return false;
         }
-        p += 1;
     }
     true
 }
@@ -84,17 +73,13 @@ fn each_keeps(words: &[u64], at: usize, n: usize, hashes: &mut Hashes) -> bool
     requires { (n ≤ most_ids) × (at + n * id_words ≤ length words.now) × (length hashes.old ≡ 2 * most_ids) }
     ensures { (result ≡ every n (id_keeps words.now at)) × (result ≡ true → HashesStand words.now at n hashes.new) }
 {
-    let mut p: usize = 0;
-    while p < n {
-        let id = hashed_id(words, at, p);
-        let keeps = id.keeps;
-        if !keeps {
+    for p in 0..n {
+        let Some(whole) = hashed_id(words, at, p) else {
             return false;
-        }
-        let hash = folded(id.hash);
+        };
+        let hash = folded(whole);
         hashes[p] = hash;
         hashes[p + MOST_IDS] = hash;
-        p += 1;
     }
     true
 }
@@ -105,10 +90,8 @@ fn apart_at(hashes: &Hashes, distance: usize) -> bool
     ensures { result ≡ apart_at hashes.now distance }
 {
     let mut apart = true;
-    let mut k: usize = 0;
-    while k < MOST_IDS {
-        apart = apart & (hashes[k] != hashes[k + distance]);
-        k += 1;
+    for k in 0..MOST_IDS {
+        apart &= hashes[k] != hashes[k + distance];
     }
     apart
 }
@@ -118,10 +101,8 @@ fn hashes_apart(hashes: &Hashes) -> bool
     ensures { result ≡ hashes_apart hashes.now }
 {
     let mut apart = true;
-    let mut d: usize = 0;
-    while d < MOST_IDS / 2 {
-        apart = apart & apart_at(hashes, d + 1);
-        d += 1;
+    for d in 0..MOST_IDS / 2 {
+        apart &= apart_at(hashes, d + 1);
     }
     apart
 }
@@ -131,11 +112,9 @@ fn first_hashes() -> Hashes
     ensures { length result ≡ 2 * most_ids }
 {
     let mut hashes: Hashes = [0; 2 * MOST_IDS];
-    let mut p: usize = 0;
-    while p < MOST_IDS {
+    for p in 0..MOST_IDS {
         hashes[p] = p as u32;
         hashes[p + MOST_IDS] = p as u32;
-        p += 1;
     }
     hashes
 }
@@ -192,14 +171,12 @@ pub fn listed_id(state: &State, id: &[u8]) -> Option<usize>
     ensures { result ≡ listed_id state.now id.now }
 {
     let count = state[ID_COUNT_WORD] as usize;
-    let mut p: usize = 0;
-    while p < count {
+    for p in 0..count {
         let d = FIRST_ID_WORD + p * ID_WORDS;
         let n = state[d + ID_BYTES_PLACE] as usize;
         if names::has_name(state, d + ID_PLACE, n, id) {
             return Some(p);
         }
-        p += 1;
     }
     None
 }

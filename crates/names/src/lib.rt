@@ -2,9 +2,9 @@
 // read word by word, and no further than its length.
 #![tactic(auto)]
 
-ghost use Rattle.std.specs.Prelude.{◌≡◌, true, ◌+◌, ◌*◌, ◌^◌, ◌≤◌, ◌<◌, eqb, length, get_or};
+ghost use Rattle.std.specs.Prelude.{◌≡◌, true, ◌+◌, ◌*◌, ◌^◌, ◌≤◌, ◌<◌, eqb, length, get_or, Some, None};
 ghost use Rattle.wire.specs.BigEndian.{byte_at, number_at};
-ghost use Rattle.basics.specs.Choice.{every};
+ghost use Rattle.basics.specs.Choice.{every, pick};
 ghost use Rattle.model.specs.Layout.{word_bytes};
 ghost use Rattle.model.specs.Devices.{same_name, words_holding};
 ghost use Rattle.names.specs.NameWords.{whole_word, last_word, same_bytes, held_bytes, padded, holds_name};
@@ -33,10 +33,8 @@ fn whole_words(words: &[u64], from: usize, n: usize) -> bool
     ensures { result ≡ every n (λ q. whole_word (get_or words.now (from + q) 0)) }
 {
     let mut zeros: u64 = 0;
-    let mut q: usize = 0;
-    while q < n {
-        zeros = zeros | zero_bytes(words[from + q]);
-        q += 1;
+    for w in &words[from..from + n] {
+        zeros |= zero_bytes(*w);
     }
     zeros == 0
 }
@@ -92,53 +90,35 @@ fn pass_words(words: &[u64], from: usize, n: usize, first: u64) -> Passed
 {
     let mut zeros: u64 = 0;
     let mut hash = first;
-    let mut q: usize = 0;
-    while q < n {
-        let word = words[from + q];
-        zeros = zeros | zero_bytes(word);
-        hash = mixed(hash, word);
-        q += 1;
+    for word in &words[from..from + n] {
+        zeros |= zero_bytes(*word);
+        hash = mixed(hash, *word);
     }
     Passed { zeros, hash }
 }
 
-// Whether words hold a name, and the hash of it; of what is no name the hash says nothing.
-#[derive(Clone, Copy)]
-pub struct Hashed {
-    pub keeps: bool,
-    pub hash: u64,
-}
-
-// The same as `holds_name`, with the name's hash.
-pub fn hashed_name(words: &[u64], from: usize, n: usize, most: usize) -> Hashed
+// The name's hash where `holds_name` does; None for what is no name.
+pub fn hashed_name(words: &[u64], from: usize, n: usize, most: usize) -> Option<u64>
     requires { from + words_holding most ≤ length words.now }
-    ensures { (result.keeps ≡ holds_name words.now from n most) × (result.keeps ≡ true → result.hash ≡ hash_of words.now from n) }
+    ensures { result ≡ pick (holds_name words.now from n most) (Some (hash_of words.now from n)) None }
 {
     if n == 0 {
-        return Hashed {
-            keeps: false,
-            hash: 0,
-        };
+        return None;
     }
     if n > most {
-        return Hashed {
-            keeps: false,
-            hash: 0,
-        };
+        return None;
     }
     let last = (n - 1) / WORD_BYTES;
     let passed = pass_words(words, from, last, n as u64);
     if passed.zeros != 0 {
-        return Hashed {
-            keeps: false,
-            hash: 0,
-        };
+        return None;
     }
     let word = words[from + last];
     let end = (n - 1) % WORD_BYTES;
-    let keeps = last_word_keeps(word, end);
-    let hash = mixed(passed.hash, word);
-    Hashed { keeps, hash }
+    if !last_word_keeps(word, end) {
+        return None;
+    }
+    Some(mixed(passed.hash, word))
 }
 
 // The `n` words from `a` on are those from `b` on.
@@ -146,14 +126,7 @@ fn same_words(words: &[u64], a: usize, b: usize, n: usize) -> bool
     requires { (a + n ≤ length words.now) × (b + n ≤ length words.now) }
     ensures { result ≡ every n (λ q. same_bytes (get_or words.now (a + q) 0) (get_or words.now (b + q) 0)) }
 {
-    let mut q: usize = 0;
-    while q < n {
-        if words[a + q] != words[b + q] {
-            return false;
-        }
-        q += 1;
-    }
-    true
+    words[a..a + n] == words[b..b + n]
 }
 
 // The `n` bytes from the word `a` on and the `m` from `b` on are the same. Where they are as many, their words are the same: what follows them is 0.
@@ -213,12 +186,10 @@ fn has_bytes(words: &[u64], from: usize, n: usize, name: &[u8]) -> bool
     requires { (from + n ≤ length words.now) × (n * word_bytes < length name.now + word_bytes) }
     ensures { result ≡ every n (λ q. same_bytes (get_or words.now (from + q) 0) (number_at name.now (q * word_bytes) word_bytes)) }
 {
-    let mut q: usize = 0;
-    while q < n {
+    for q in 0..n {
         if words[from + q] != word_at(name, q * WORD_BYTES) {
             return false;
         }
-        q += 1;
     }
     true
 }

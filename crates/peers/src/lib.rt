@@ -67,12 +67,10 @@ pub fn find_peer(state: &State, channel: usize, handle: u64) -> Option<usize>
     requires { channel < channel_count }
     ensures { result ≡ peer_for state.now channel handle }
 {
-    let mut p: usize = 0;
-    while p < MOST_IDS {
+    for p in 0..MOST_IDS {
         if peered_as(state, channel, handle, p) {
             return Some(p);
         }
-        p += 1;
     }
     None
 }
@@ -95,10 +93,8 @@ pub fn count(state: &State, channel: usize) -> u64
     ensures { result ≡ peers_below state.now channel most_ids }
 {
     let mut n: u64 = 0;
-    let mut p: usize = 0;
-    while p < MOST_IDS {
+    for p in 0..MOST_IDS {
         n += mark_of(state, channel, p);
-        p += 1;
     }
     n
 }
@@ -151,12 +147,10 @@ fn each_sound(state: &State, channel: usize) -> bool
     ensures { result ≡ every most_ids (peer_sound state.now (ready_at state.now channel) channel) }
 {
     let ready = state[channel];
-    let mut p: usize = 0;
-    while p < MOST_IDS {
+    for p in 0..MOST_IDS {
         if !peer_sound(state, ready, channel, p) {
             return false;
         }
-        p += 1;
     }
     true
 }
@@ -181,12 +175,10 @@ fn peer_apart(state: &State, channel: usize, p: usize) -> bool
         return true;
     }
     let handle = handle_of(state, channel, p);
-    let mut q: usize = 0;
-    while q < p {
+    for q in 0..p {
         if !differs(state, channel, q, handle) {
             return false;
         }
-        q += 1;
     }
     true
 }
@@ -195,12 +187,10 @@ fn registered_apart(state: &State, channel: usize) -> bool
     requires { channel < channel_count }
     ensures { result ≡ every most_ids (peer_apart state.now channel) }
 {
-    let mut p: usize = 0;
-    while p < MOST_IDS {
+    for p in 0..MOST_IDS {
         if !peer_apart(state, channel, p) {
             return false;
         }
-        p += 1;
     }
     true
 }
@@ -214,12 +204,10 @@ fn handle_alone(state: &State, channel: usize, p: usize) -> bool
         return true;
     }
     let handle = handle_of(state, channel, p);
-    let mut j: usize = 0;
-    while j < p {
+    for j in 0..p {
         if handle_of(state, channel, j) == handle {
             return false;
         }
-        j += 1;
     }
     true
 }
@@ -228,12 +216,10 @@ fn handles_alone(state: &State, channel: usize) -> bool
     requires { channel < channel_count }
     ensures { result ≡ true → every most_ids (peer_apart state.now channel) ≡ true }
 {
-    let mut p: usize = 0;
-    while p < MOST_IDS {
+    for p in 0..MOST_IDS {
         if !handle_alone(state, channel, p) {
             return false;
         }
-        p += 1;
     }
     true
 }
@@ -261,10 +247,8 @@ pub fn none_registered(state: &State) -> bool
     ensures { result ≡ true → (c : ℕ) → c < channel_count → (p : ℕ) → peered_at state.now c p ≡ 0 }
 {
     let mut none = true;
-    let mut c: usize = 0;
-    while c < CHANNEL_COUNT {
+    for c in 0..CHANNEL_COUNT {
         none = none & none_marked(state, c);
-        c += 1;
     }
     none
 }

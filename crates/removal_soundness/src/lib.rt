@@ -78,12 +78,10 @@ fn results_sound(state: &State) -> bool
     ensures { result ≡ results_sound (removal_of state.now) }
 {
     let n = state[POSITION_WORD] as usize;
-    let mut i: usize = 0;
-    while i < n {
+    for i in 0..n {
         if !result_sound(state[FIRST_RESULT_WORD + i]) {
             return false;
         }
-        i += 1;
     }
     true
 }

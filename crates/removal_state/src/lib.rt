@@ -136,10 +136,8 @@ fn put_column(state: &mut State, word: usize, b: &[u8], n: usize, at: usize)
     requires { (word + most_records ≤ state_words) × (length b.now ≡ memory_header_bytes + n * pair_bytes) × (memory_header_bytes ≤ at) × (at + 8 ≤ memory_header_bytes + pair_bytes) }
     ensures { state.new ≡ sets state.old word (tabulate (λ i. number_at b.now (at + i * pair_bytes) 8) most_records) }
 {
-    let mut i: usize = 0;
-    while i < MOST_RECORDS {
+    for i in 0..MOST_RECORDS {
         state[word + i] = number_of(b, n, at, i);
-        i += 1;
     }
 }
 

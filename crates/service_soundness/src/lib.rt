@@ -50,8 +50,7 @@ pub fn services_sound(state: &State) -> bool
     ensures { result ≡ every place_count (λ k. service_sound_at state.now k) }
 {
     let last = state[LAST_WORD];
-    let mut k: usize = 0;
-    while k < PLACE_COUNT {
+    for k in 0..PLACE_COUNT {
         let at = k * SERVICE_WORDS;
         if !service_sound(
             state[FIRST_STAGE_WORD + at],
@@ -62,7 +61,6 @@ pub fn services_sound(state: &State) -> bool
         ) {
             return false;
         }
-        k += 1;
     }
     true
 }
@@ -71,12 +69,10 @@ pub fn services_sound(state: &State) -> bool
 pub fn channels_sound(state: &State) -> bool
     ensures { result ≡ every channel_count (λ c. leb (ready_at state.now c) 1) }
 {
-    let mut c: usize = 0;
-    while c < CHANNEL_COUNT {
+    for c in 0..CHANNEL_COUNT {
         if 1 < state[c] {
             return false;
         }
-        c += 1;
     }
     true
 }
@@ -102,12 +98,10 @@ fn handle_apart(state: &State, k: usize) -> bool
         return true;
     }
     let handle = state[FIRST_HANDLE_WORD + k * SERVICE_WORDS];
-    let mut j: usize = 0;
-    while j < k {
+    for j in 0..k {
         if !differs(state, j, handle) {
             return false;
         }
-        j += 1;
     }
     true
 }
@@ -115,12 +109,10 @@ fn handle_apart(state: &State, k: usize) -> bool
 fn live_handles_apart(state: &State) -> bool
     ensures { result ≡ every place_count (λ k. handle_apart state.now k) }
 {
-    let mut k: usize = 0;
-    while k < PLACE_COUNT {
+    for k in 0..PLACE_COUNT {
         if !handle_apart(state, k) {
             return false;
         }
-        k += 1;
     }
     true
 }
@@ -134,12 +126,10 @@ fn handle_alone(state: &State, k: usize) -> bool
         return true;
     }
     let handle = state[FIRST_HANDLE_WORD + k * SERVICE_WORDS];
-    let mut j: usize = 0;
-    while j < k {
+    for j in 0..k {
         if state[FIRST_HANDLE_WORD + j * SERVICE_WORDS] == handle {
             return false;
         }
-        j += 1;
     }
     true
 }
@@ -147,12 +137,10 @@ fn handle_alone(state: &State, k: usize) -> bool
 fn handles_alone(state: &State) -> bool
     ensures { result ≡ true → every place_count (λ k. handle_apart state.now k) ≡ true }
 {
-    let mut k: usize = 0;
-    while k < PLACE_COUNT {
+    for k in 0..PLACE_COUNT {
         if !handle_alone(state, k) {
             return false;
         }
-        k += 1;
     }
     true
 }

@@ -14,29 +14,26 @@ use Rattle.blocks.proofs.keep_rules.Goals as goal
 pub returns-then-not-block_keeps : goal.returns-then-not-block_keeps
 unfolding block_in
 returns-then-not-block_keeps c =
-    let t = c.before.before.before.before.before.before.before in
-    every-fails _ _ _ t.loop-i-test.true
-    (rw (← t.before.loop-i.invariant.1) (no _ c.before.block_keeps.ensures (ap not c.if-not-block_keeps.true)))
+    every-fails _ _ _ c.loop-i-test.true
+    (rw (← c.loop-i.invariant.0) (no _ c.block_keeps.ensures (ap not c.if-not-block_keeps.true)))
 
 pub overflow_mul-floor : goal.overflow_mul-floor
-overflow_mul-floor c = let r = (block-rules _ _ (yes _ c.before.block_keeps.ensures (ap not c.if-not-block_keeps.false))).0 in omega arith
+overflow_mul-floor c = let r = (block-rules _ _ (yes _ c.block_keeps.ensures (ap not c.if-not-block_keeps.false))).0 in omega arith
 
 pub overflow_add-floor : goal.overflow_add-floor
-overflow_add-floor c = let r = (block-rules _ _ (yes _ c.before.block_keeps.ensures (ap not c.if-not-block_keeps.false))).0 in omega arith
+overflow_add-floor c = let r = (block-rules _ _ (yes _ c.block_keeps.ensures (ap not c.if-not-block_keeps.false))).0 in omega arith
 
 pub loop-i-preserved : goal.loop-i-preserved
 unfolding block_in end_before
 loop-i-preserved c =
-    let t = c.before.before.before.before.before.before.before.before in
-    let l = t.loop-i in (
-      omega arith,
+    let l = c.loop-i in (
       rw (add-one l.i),
-      every_more _ _ l.invariant.2 (rw (← l.invariant.1) (yes _ c.before.block_keeps.ensures (ap not c.if-not-block_keeps.false))),
+      every_more _ _ l.invariant.1 (rw (← l.invariant.0) (yes _ c.block_keeps.ensures (ap not c.if-not-block_keeps.false))),
     )
 
 pub returns : goal.returns
-returns c = every-all _ _ _ c.before.loop-i.invariant.0 c.loop-i-test.false c.before.loop-i.invariant.2
+returns c = every-all _ _ _ c.loop-i.auto.i-end c.loop-i-test.false c.loop-i.invariant.1
 
 pub loop-i-init : goal.loop-i-init
 unfolding end_before
-loop-i-init c = (omega arith, refl, every-none _)
+loop-i-init c = (refl, every-none _)

@@ -18,10 +18,10 @@ returns-then-not-device_apart c =
 
 pub loop-i-preserved : goal.loop-i-preserved
 loop-i-preserved c =
-    (omega arith, every_more _ _ c.loop-i.invariant.1 (yes _ c.device_apart.ensures (ap not c.if-not-device_apart.false)))
+    every_more _ _ c.loop-i.invariant (yes _ c.device_apart.ensures (ap not c.if-not-device_apart.false))
 
 pub returns : goal.returns
-returns c = let l = c.loop-i in every-all _ _ _ l.invariant.0 c.loop-i-test.false l.invariant.1
+returns c = let l = c.loop-i in every-all _ _ _ l.auto.i-end c.loop-i-test.false l.invariant
 
 pub loop-i-init : goal.loop-i-init
-loop-i-init c = (omega arith, every-none _)
+loop-i-init c = every-none _

@@ -16,15 +16,14 @@ pub loop-j-preserved : goal.loop-j-preserved
 unfolding every
 loop-j-preserved c =
     let l = c.loop-j in
-    let a = c.args in
-    (omega arith, both-pass l.apart (not (eqb (get_or a.words.now (a.at + l.j * device_words) 0) (get_or a.words.now (a.at + a.i * device_words) 0))) ∙ rw (l.invariant.1, add-one))
+    both-pass l.apart (not (eqb (get_or c.args.words.now (c.args.at + l.j * device_words) 0) (get_or c.args.words.now (c.args.at + c.args.i * device_words) 0))) ∙ rw (l.invariant, add-one)
 
 pub returns : goal.returns
 unfolding device_in
 returns c =
-    let past : c.loop-j.j ≡ c.args.i = omega (arith, c.loop-j.invariant.0, c.loop-j-test.false) in
-    c.loop-j.invariant.1 ∙ rw past
+    let past : c.loop-j.j ≡ c.args.i = omega (arith, c.loop-j.auto.j-end, c.loop-j-test.false) in
+    c.loop-j.invariant ∙ rw past
 
 pub loop-j-init : goal.loop-j-init
 unfolding every
-loop-j-init c = (omega arith, refl)
+loop-j-init c = refl

@@ -13,10 +13,9 @@ use Rattle.device_list.proofs.is_device.Tie as tie
 pub returns-then-words-d : goal.returns-then-words-d
 unfolding device_in
 returns-then-words-d c =
-    let a = c.args in
-    id-differs a.words.now a.at a.i _ _ c.if-words-d.true
+    id-differs c.args.words.now c.args.at c.args.i _ _ c.if-words-d.true
 
-rules : (c : (lts.Else1 tie.the-claims reads.Pre reads.Post)) → let s = c.args in NameRules s.words.now (name_from s.at s.i) (name_bytes_in s.words.now s.at s.i) most_name_bytes
+rules : (c : (lts.Else1 tie.the-claims reads.Pre reads.Post)) → NameRules c.args.words.now (name_from c.args.at c.args.i) (name_bytes_in c.args.words.now c.args.at c.args.i) most_name_bytes
 rules c = rules-held _ _ _ c.requires.1
 
 pub has_name-requires : goal.has_name-requires

@@ -20,11 +20,11 @@ returns-then-same_device c =
 
 pub loop-j-preserved : goal.loop-j-preserved
 loop-j-preserved c =
-    (omega arith, every_more _ _ c.loop-j.invariant.1 (ap not (sym c.same_device.ensures ∙ c.if-same_device.false)))
+    every_more _ _ c.loop-j.invariant (ap not (sym c.same_device.ensures ∙ c.if-same_device.false))
 
 pub returns : goal.returns
 unfolding device_apart
-returns c = let l = c.loop-j in every-all _ _ _ l.invariant.0 c.loop-j-test.false l.invariant.1
+returns c = let l = c.loop-j in every-all _ _ _ l.auto.j-end c.loop-j-test.false l.invariant
 
 pub loop-j-init : goal.loop-j-init
-loop-j-init c = (omega arith, every-none _)
+loop-j-init c = every-none _

@@ -9,25 +9,21 @@ use Rattle.device_list.proofs.named_device.Goals as goal
 
 pub is_device-requires : goal.is_device-requires
 is_device-requires c =
-    let keep = c.requires in
-    let few = devices-few _ _ _ keep in
-    (omega arith, keeps-name _ _ _ _ (devices-each _ _ _ keep) c.loop-i-test.true)
+    let few = devices-few _ _ _ c.requires in
+    (omega arith, keeps-name _ _ _ _ (devices-each _ _ _ c.requires) c.loop-i-test.true)
 
 pub returns-then-is_device : goal.returns-then-is_device
 unfolding named_device
 returns-then-is_device c =
-    found_here _ _ _ c.loop-i.invariant.1 c.loop-i-test.true (sym c.is_device.ensures ∙ c.if-is_device.true)
-
-pub overflow_add-i : goal.overflow_add-i
-overflow_add-i c = omega (arith, devices-few _ _ _ c.requires)
+    found_here _ _ _ c.loop-i.invariant c.loop-i-test.true (sym c.is_device.ensures ∙ c.if-is_device.true)
 
 pub loop-i-preserved : goal.loop-i-preserved
 loop-i-preserved c =
-    (omega arith, none_more _ _ c.loop-i.invariant.1 (sym c.is_device.ensures ∙ c.if-is_device.false))
+    none_more _ _ c.loop-i.invariant (sym c.is_device.ensures ∙ c.if-is_device.false)
 
 pub returns : goal.returns
 unfolding named_device
-returns c = found_nowhere _ _ _ c.loop-i.invariant.1 c.loop-i-test.false
+returns c = found_nowhere _ _ _ c.loop-i.invariant c.loop-i-test.false
 
 pub loop-i-init : goal.loop-i-init
-loop-i-init c = (omega arith, none_first _)
+loop-i-init c = none_first _

@@ -14,18 +14,16 @@ use Rattle.device_list.proofs.same_device.Tie as tie
 pub returns-then-words-a : goal.returns-then-words-a
 unfolding device_in
 returns-then-words-a c =
-    let a = c.args in
-    id-differs a.words.now a.at a.j _ _ c.if-words-a.true
+    id-differs c.args.words.now c.args.at c.args.j _ _ c.if-words-a.true
 
 abbrev Held : (lts.Start tie.the-claims reads.Pre reads.Post) → ℕ → Type 0
 Held s i = NameRules s.args.words.now (name_from s.args.at i) (name_bytes_in s.args.words.now s.args.at i) most_name_bytes
 
 rules : (c : (lts.Else1 tie.the-claims reads.Pre reads.Post)) → Held (search) c.args.j × Held (search) c.args.i
-rules c = let p = c.requires in (rules-held _ _ _ p.3, rules-held _ _ _ p.2)
+rules c = (rules-held _ _ _ c.requires.3, rules-held _ _ _ c.requires.2)
 
 pub same_names-requires : goal.same_names-requires
 same_names-requires c =
-    let p = c.requires in
     let few = (rules (search)).0.few in
     let few-too = (rules (search)).1.few in
     ((rules (search)).0.some, omega arith, omega arith, (rules (search)).0.padding, (rules (search)).1.padding)

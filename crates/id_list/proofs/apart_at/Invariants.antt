@@ -2,15 +2,11 @@
 -- Assumes nothing.
 use mathlib.Core.Bool.{not}
 use mathlib.Core.Path.{◌≡◌}
-use Prim.Native.Nat.{◌+◌, ◌≤◌, ◌-◌}
+use Prim.Native.Nat.{◌+◌}
 use lib.ListN.{get_or}
 use lib.Dec.{eqb}
 use Rattle.basics.specs.Choice.{every}
-use Rattle.model.specs.Layout.{most_ids}
 use Rattle.id_list.proofs.apart_at.Given as goal
 
 abbrev pub invariant-loop-k : goal.invariant-loop-k
-invariant-loop-k l = (l.k ≤ most_ids) × (l.apart ≡ every l.k (λ j. not (eqb (get_or l.hashes j 0) (get_or l.hashes (j + l.distance) 0))))
-
-abbrev pub decreases-loop-k : goal.decreases-loop-k
-decreases-loop-k l = most_ids - l.k
+invariant-loop-k l = l.apart ≡ every l.k (λ j. not (eqb (get_or l.hashes j 0) (get_or l.hashes (j + l.distance) 0)))

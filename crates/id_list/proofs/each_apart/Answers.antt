@@ -2,10 +2,7 @@
 -- Assumes nothing.
 use mathlib.Core.Path.{ap}
 use mathlib.Core.Bool.{not}
-use mathlib.Core.Bool.{true}
-use Prim.Native.Nat.{◌-◌}
 use native.Mathlib.Omega.{arith}
-use Rattle.model.specs.Peers.{id_apart}
 use Rattle.basics.proofs.Choice.{every-at, every-make}
 use Rattle.basics.proofs.Loops.{no, yes, every-none, every_more, every-fails, every-all}
 use Rattle.id_list.proofs.each_apart.Goals as goal
@@ -22,10 +19,10 @@ returns-then-not-id_apart c =
 
 pub loop-p-preserved : goal.loop-p-preserved
 loop-p-preserved c =
-    (omega arith, every_more _ _ c.loop-p.invariant.1 (yes _ c.id_apart.ensures (ap not c.if-not-id_apart.false)))
+    every_more _ _ c.loop-p.invariant (yes _ c.id_apart.ensures (ap not c.if-not-id_apart.false))
 
 pub returns : goal.returns
-returns c = let l = c.loop-p in every-all _ _ _ l.invariant.0 c.loop-p-test.false l.invariant.1
+returns c = let l = c.loop-p in every-all _ _ _ l.auto.p-end c.loop-p-test.false l.invariant
 
 pub loop-p-init : goal.loop-p-init
-loop-p-init c = (omega arith, every-none _)
+loop-p-init c = every-none _

@@ -2,13 +2,9 @@
 -- Assumes nothing.
 use mathlib.Core.Bool.{true}
 use mathlib.Core.Path.{◌≡◌}
-use Prim.Native.Nat.{◌≤◌, ◌-◌}
 use Rattle.basics.specs.Choice.{every}
 use Rattle.model.specs.Peers.{id_apart}
 use Rattle.id_list.proofs.each_apart.Given as goal
 
 abbrev pub invariant-loop-p : goal.invariant-loop-p
-invariant-loop-p l = (l.p ≤ l.n) × (every l.p (id_apart l.words l.at) ≡ true)
-
-abbrev pub decreases-loop-p : goal.decreases-loop-p
-decreases-loop-p l = l.n - l.p
+invariant-loop-p l = every l.p (id_apart l.words l.at) ≡ true

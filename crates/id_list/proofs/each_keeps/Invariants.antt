@@ -2,7 +2,7 @@
 -- Assumes nothing.
 use mathlib.Core.Bool.{true}
 use mathlib.Core.Path.{◌≡◌}
-use Prim.Native.Nat.{◌*◌, ◌≤◌, ◌-◌}
+use Prim.Native.Nat.{◌*◌}
 use lib.ListN.{length}
 use Rattle.basics.specs.Choice.{every}
 use Rattle.model.specs.Layout.{most_ids}
@@ -12,7 +12,4 @@ use Rattle.id_list.proofs.each_keeps.Given as goal
 
 abbrev pub invariant-loop-p : goal.invariant-loop-p
 invariant-loop-p l =
-    (l.p ≤ l.n) × (every l.p (id_keeps l.words l.at) ≡ true) × (length l.hashes ≡ 2 * most_ids) × HashesStand l.words l.at l.p l.hashes
-
-abbrev pub decreases-loop-p : goal.decreases-loop-p
-decreases-loop-p l = l.n - l.p
+    (every l.p (id_keeps l.words l.at) ≡ true) × (length l.hashes ≡ 2 * most_ids) × HashesStand l.words l.at l.p l.hashes

@@ -2,7 +2,7 @@
 -- Assumes nothing.
 use native.Mathlib.Omega.{arith}
 use mathlib.Core.Path.{◌≡◌, refl, ◌∙◌}
-use Prim.Native.Nat.{◌/◌, ◌-◌}
+use Prim.Native.Nat.{◌/◌}
 use native.Mathlib.Numerals.{add-one}
 use Rattle.basics.specs.Choice.{every}
 use Rattle.model.specs.Layout.{most_ids}
@@ -13,13 +13,13 @@ use Rattle.id_list.proofs.hashes_apart.Goals as goal
 pub loop-d-preserved : goal.loop-d-preserved
 unfolding every
 loop-d-preserved c = let l = c.loop-d in
-    (omega arith, both-pass l.apart c.apart_at-apart.result ∙ rw (l.invariant.1, add-one, c.apart_at-apart.ensures))
+    both-pass l.apart c.apart_at-apart.result ∙ rw (l.invariant, add-one, c.apart_at-apart.ensures)
 
 pub returns : goal.returns
 unfolding hashes_apart
-returns c = let past : c.loop-d.d ≡ most_ids / 2 = omega (arith, c.loop-d.invariant.0, c.loop-d-test.false) in
-    c.loop-d.invariant.1 ∙ rw past
+returns c = let past : c.loop-d.d ≡ most_ids / 2 = omega (arith, c.loop-d.auto.d-end, c.loop-d-test.false) in
+    c.loop-d.invariant ∙ rw past
 
 pub loop-d-init : goal.loop-d-init
 unfolding every
-loop-d-init c = (omega arith, refl)
+loop-d-init c = refl

@@ -1,14 +1,10 @@
 -- `id_list::hashes_apart` meets its contract: no hash is the one at a distance passed.
 -- Assumes nothing.
 use mathlib.Core.Path.{◌≡◌}
-use Prim.Native.Nat.{◌+◌, ◌/◌, ◌≤◌, ◌-◌}
+use Prim.Native.Nat.{◌+◌}
 use Rattle.basics.specs.Choice.{every}
-use Rattle.model.specs.Layout.{most_ids}
 use Rattle.id_list.specs.Hashes.{apart_at}
 use Rattle.id_list.proofs.hashes_apart.Given as goal
 
 abbrev pub invariant-loop-d : goal.invariant-loop-d
-invariant-loop-d l = (l.d ≤ most_ids / 2) × (l.apart ≡ every l.d (λ j. apart_at l.hashes (j + 1)))
-
-abbrev pub decreases-loop-d : goal.decreases-loop-d
-decreases-loop-d l = most_ids / 2 - l.d
+invariant-loop-d l = l.apart ≡ every l.d (λ j. apart_at l.hashes (j + 1))

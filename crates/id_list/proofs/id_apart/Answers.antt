@@ -1,8 +1,8 @@
 -- `id_list::id_apart` meets its contract: no id passed has its bytes.
 -- Assumes nothing.
-use mathlib.Core.Bool.{true, not}
+use mathlib.Core.Bool.{not}
 use mathlib.Core.Path.{◌≡◌, sym, ap, ◌∙◌}
-use Prim.Native.Nat.{ℕ, ◌-◌}
+use Prim.Native.Nat.{ℕ}
 use Rattle.model.specs.Devices.{same_name}
 use Rattle.model.specs.Layout.{id_in}
 use Rattle.model.specs.Peers.{id_apart}
@@ -19,8 +19,7 @@ Held c p = BytesRules c.args.words.now c.args.at p
 
 rules : (c : (lts.In-loop tie.the-claims reads.Pre reads.Post goal.the-invariant-loop-q goal.the-decreases-loop-q)) → Held (search) c.loop-q.q × Held (search) c.args.p
 rules c =
-    let pre = c.requires in
-    (bytes-rules _ _ _ (id-at _ _ _ _ pre.1 c.loop-q-test.true), bytes-rules _ _ _ (id-rules _ _ _ pre.2).bytes)
+    (bytes-rules _ _ _ (id-at _ _ _ _ c.requires.1 c.loop-q-test.true), bytes-rules _ _ _ (id-rules _ _ _ c.requires.2).bytes)
 
 pub same_names-requires : goal.same_names-requires
 same_names-requires c =
@@ -31,7 +30,7 @@ same_names-requires c =
     (r.0.some, omega arith, omega arith, r.0.padding, r.1.padding)
 
 -- the two ids are the same
-same : (c : (lts.After-same_names tie.the-claims reads.Pre reads.Post goal.the-invariant-loop-q goal.the-decreases-loop-q)) → let a = c.args in same_name (id_in a.words.now a.at c.loop-q.q).bytes (id_in a.words.now a.at a.p).bytes ≡ c.same_names.result
+same : (c : (lts.After-same_names tie.the-claims reads.Pre reads.Post goal.the-invariant-loop-q goal.the-decreases-loop-q)) → same_name (id_in c.args.words.now c.args.at c.loop-q.q).bytes (id_in c.args.words.now c.args.at c.args.p).bytes ≡ c.same_names.result
 same c = sym (pair_same _ _ _ _) ∙ sym c.same_names.ensures
 
 pub returns-then-same_names : goal.returns-then-same_names
@@ -41,11 +40,11 @@ returns-then-same_names c =
 
 pub loop-q-preserved : goal.loop-q-preserved
 loop-q-preserved c =
-    (omega arith, every_more _ _ c.loop-q.invariant.1 (ap not (same (search) ∙ c.if-same_names.false)))
+    every_more _ _ c.loop-q.invariant (ap not (same (search) ∙ c.if-same_names.false))
 
 pub returns : goal.returns
 unfolding id_apart
-returns c = let l = c.loop-q in every-all _ _ _ l.invariant.0 c.loop-q-test.false l.invariant.1
+returns c = let l = c.loop-q in every-all _ _ _ l.auto.q-end c.loop-q-test.false l.invariant
 
 pub loop-q-init : goal.loop-q-init
-loop-q-init c = (omega arith, every-none _)
+loop-q-init c = every-none _

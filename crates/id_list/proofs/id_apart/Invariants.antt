@@ -2,14 +2,10 @@
 -- Assumes nothing.
 use mathlib.Core.Bool.{true, not}
 use mathlib.Core.Path.{◌≡◌}
-use Prim.Native.Nat.{◌≤◌, ◌-◌}
 use Rattle.basics.specs.Choice.{every}
 use Rattle.model.specs.Devices.{same_name}
 use Rattle.model.specs.Layout.{id_in}
 use Rattle.id_list.proofs.id_apart.Given as goal
 
 abbrev pub invariant-loop-q : goal.invariant-loop-q
-invariant-loop-q l = (l.q ≤ l.p) × (every l.q (λ k. not (same_name (id_in l.words l.at k).bytes (id_in l.words l.at l.p).bytes)) ≡ true)
-
-abbrev pub decreases-loop-q : goal.decreases-loop-q
-decreases-loop-q l = l.p - l.q
+invariant-loop-q l = every l.q (λ k. not (same_name (id_in l.words l.at k).bytes (id_in l.words l.at l.p).bytes)) ≡ true

@@ -20,7 +20,7 @@ pub returns-then-not-each_keeps : goal.returns-then-not-each_keeps
 returns-then-not-each_keeps c =
     refute _ (λ t. clash _ (no _ c.each_keeps.ensures.0 (ap not c.if-not-each_keeps.true)) (ids-rules _ _ _ t).each)
 
-each : (c : (lts.Else1 tie.the-claims reads.Pre reads.Post)) → let a = c.args in every a.n (id_keeps a.words.now a.at) ≡ true
+each : (c : (lts.Else1 tie.the-claims reads.Pre reads.Post)) → every c.args.n (id_keeps c.args.words.now c.args.at) ≡ true
 each c = yes _ c.each_keeps.ensures.0 (ap not c.if-not-each_keeps.false)
 
 pub returns-then-hashes_apart : goal.returns-then-hashes_apart

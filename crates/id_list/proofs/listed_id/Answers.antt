@@ -1,7 +1,6 @@
 -- `id_list::listed_id` meets its contract: no id passed has the bytes.
 -- Assumes nothing.
 use mathlib.Core.Path.{◌≡◌, sym, ◌∙◌}
-use Prim.Native.Nat.{◌-◌}
 use Rattle.model.specs.Devices.{same_name}
 use Rattle.model.specs.Layout.{first_id_word, id_in, ids_of}
 use Rattle.model.specs.Peers.{listed_id}
@@ -27,27 +26,24 @@ has_name-requires c =
     (r.some, omega arith, r.padding)
 
 -- the id has the bytes
-same : (c : (lts.After-has_name tie.the-claims reads.Pre reads.Post goal.the-invariant-loop-p goal.the-decreases-loop-p)) → let a = c.args in same_name (id_in a.state.now first_id_word c.loop-p.p).bytes a.id.now ≡ c.has_name.result
+same : (c : (lts.After-has_name tie.the-claims reads.Pre reads.Post goal.the-invariant-loop-p goal.the-decreases-loop-p)) → same_name (id_in c.args.state.now first_id_word c.loop-p.p).bytes c.args.id.now ≡ c.has_name.result
 same c = sym (id_same _ _ _ _) ∙ sym c.has_name.ensures
 
 pub returns-then-has_name : goal.returns-then-has_name
 unfolding listed_id
 returns-then-has_name c =
-    found_here _ _ _ c.loop-p.invariant.1 c.loop-p-test.true (same (search) ∙ c.if-has_name.true)
-
-pub overflow_add-p : goal.overflow_add-p
-overflow_add-p c = omega (arith, (all-rules (search)).few)
+    found_here _ _ _ c.loop-p.invariant c.loop-p-test.true (same (search) ∙ c.if-has_name.true)
 
 pub loop-p-preserved : goal.loop-p-preserved
 loop-p-preserved c =
-    (omega arith, none_more _ _ c.loop-p.invariant.1 (same (search) ∙ c.if-has_name.false))
+    none_more _ _ c.loop-p.invariant (same (search) ∙ c.if-has_name.false)
 
 pub returns : goal.returns
 unfolding listed_id
-returns c = found_nowhere _ _ _ c.loop-p.invariant.1 c.loop-p-test.false
+returns c = found_nowhere _ _ _ c.loop-p.invariant c.loop-p-test.false
 
 pub loop-p-init : goal.loop-p-init
-loop-p-init c = (omega arith, none_first _)
+loop-p-init c = none_first _
 
 pub overflow_mul-d : goal.overflow_mul-d
 overflow_mul-d c = omega (arith, (all-rules (search)).few)

@@ -7,11 +7,11 @@ use native.Mathlib.Omega.{arith}
 use Rattle.names.proofs.byte_or_zero.Goals as goal
 
 pub overflow_cast-result : goal.overflow_cast-result
-overflow_cast-result c = omega (arith, c.shared_slice_known-1.given c.before.before.args.i)
+overflow_cast-result c = omega (arith, c.type_inv.b c.args.i)
 
 pub returns-then-i-b : goal.returns-then-i-b
 returns-then-i-b c =
-    let below : _ = c.shared_slice_known-1.given c.before.before.args.i in
+    let below : _ = c.type_inv.b c.args.i in
     (byte-at _ _ (omega arith), omega arith)
 
 pub returns : goal.returns

@@ -9,5 +9,4 @@ use Rattle.names.proofs.half_word.Goals as goal
 pub returns : goal.returns
 unfolding number_at
 returns c =
-    let args : _ = c.before.before.before.before.before.args in
-    omega (arith, ap (byte_at args.b.now) (add-zero args.at))
+    omega (arith, ap (byte_at c.args.b.now) (add-zero c.args.at))

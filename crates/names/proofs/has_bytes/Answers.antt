@@ -11,22 +11,18 @@ use Rattle.names.proofs.has_bytes.Goals as goal
 
 pub returns-then-words-from : goal.returns-then-words-from
 returns-then-words-from c =
-    let w = c.before in
-    let k = w.before.shared_slice_known-in-loop-q-1.given in
-    let t = w.before.before in
-    let l = t.before.loop-q in
-    let a = t.before.before.before.before.args in
-    every-fails _ _ _ t.loop-q-test.true
-    (words-differ _ _ (omega (arith, k (a.from + l.q))) (number_bound _ _ word_bytes) (λ e. c.if-words-from.true (e ∙ sym w.word_at.ensures)))
+    let k = c.type_inv.words in
+    let l = c.loop-q in
+    every-fails _ _ _ c.loop-q-test.true
+    (words-differ _ _ (omega (arith, k (c.args.from + l.q))) (number_bound _ _ word_bytes) (λ e. c.if-words-from.true (e ∙ sym c.word_at.ensures)))
 
 pub loop-q-preserved : goal.loop-q-preserved
 loop-q-preserved c =
-    let w = c.before in
-    let l = w.before.before.before.loop-q in
-    (omega arith, every_more _ _ l.invariant.1 (words_same _ _ (c.if-words-from.false ∙ w.word_at.ensures)))
+    let l = c.loop-q in
+    every_more _ _ l.invariant (words_same _ _ (c.if-words-from.false ∙ c.word_at.ensures))
 
 pub returns : goal.returns
-returns c = let l = c.before.loop-q in every-all _ _ _ l.invariant.0 c.loop-q-test.false l.invariant.1
+returns c = let l = c.loop-q in every-all _ _ _ l.auto.q-end c.loop-q-test.false l.invariant
 
 pub loop-q-init : goal.loop-q-init
-loop-q-init c = (omega arith, every-none _)
+loop-q-init c = every-none _

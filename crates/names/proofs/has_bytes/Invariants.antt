@@ -2,7 +2,7 @@
 -- Assumes nothing.
 use mathlib.Core.Bool.{true}
 use mathlib.Core.Path.{◌≡◌}
-use Prim.Native.Nat.{◌+◌, ◌*◌, ◌≤◌, ◌-◌}
+use Prim.Native.Nat.{◌+◌, ◌*◌}
 use lib.ListN.{get_or}
 use Rattle.wire.specs.BigEndian.{number_at}
 use Rattle.basics.specs.Choice.{every}
@@ -11,7 +11,4 @@ use Rattle.names.specs.NameWords.{same_bytes}
 use Rattle.names.proofs.has_bytes.Given as goal
 
 abbrev pub invariant-loop-q : goal.invariant-loop-q
-invariant-loop-q l = (l.q ≤ l.n) × (every l.q (λ j. same_bytes (get_or l.words (l.from + j) 0) (number_at l.name (j * word_bytes) word_bytes)) ≡ true)
-
-abbrev pub decreases-loop-q : goal.decreases-loop-q
-decreases-loop-q l = l.n - l.q
+invariant-loop-q l = every l.q (λ j. same_bytes (get_or l.words (l.from + j) 0) (number_at l.name (j * word_bytes) word_bytes)) ≡ true

@@ -7,8 +7,7 @@ use Rattle.names.proofs.has_name.Goals as goal
 
 pub returns : goal.returns
 returns c =
-    let p = c.before.before.before.before.requires in
-    c.has_bytes.ensures ∙ same-words _ _ _ p.0 p.2 _ (omega arith)
+    c.has_bytes.ensures ∙ same-words _ _ _ c.requires.0 c.requires.2 _ (omega arith)
 
 pub returns-then-n-name : goal.returns-then-n-name
 returns-then-n-name c = length-differs _ _ _ _ (λ e. omega arith)

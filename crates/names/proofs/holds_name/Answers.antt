@@ -18,14 +18,11 @@ returns-then-most-n c = refute _ (λ t. let r = name-rules _ _ _ _ t in omega ar
 
 pub returns-then-not-whole_words : goal.returns-then-not-whole_words
 returns-then-not-whole_words c =
-    let w = c.before in
-    sym (and-false _ _ (no _ w.whole_words.ensures (ap not c.if-not-whole_words.true)))
-    ∙ name-words _ _ _ _ w.before.before.if-n-lt1.false w.before.if-most-n.false
+    sym (and-false _ _ (no _ c.whole_words.ensures (ap not c.if-not-whole_words.true)))
+    ∙ name-words _ _ _ _ c.if-n-lt1.false c.if-most-n.false
 
 pub returns : goal.returns
 returns c =
-    let e = c.before.before in
-    let w = e.before in
     c.last_word_keeps.ensures
-    ∙ sym (and-next _ _ (yes _ w.whole_words.ensures (ap not e.if-not-whole_words.false)))
-    ∙ name-words _ _ _ _ w.before.before.if-n-lt1.false w.before.if-most-n.false
+    ∙ sym (and-next _ _ (yes _ c.whole_words.ensures (ap not c.if-not-whole_words.false)))
+    ∙ name-words _ _ _ _ c.if-n-lt1.false c.if-most-n.false

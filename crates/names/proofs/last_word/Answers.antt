@@ -6,5 +6,4 @@ use Rattle.names.proofs.last_word.Goals as goal
 
 pub returns : goal.returns
 returns c =
-    let args : _ = c.before.before.before.args in
-    omega (arith, number-split args.b.now args.at 4 4)
+    omega (arith, number-split c.args.b.now c.args.at 4 4)

@@ -6,7 +6,7 @@ use Rattle.names.proofs.Zeros.{rest-fails, rest-law}
 use Rattle.names.proofs.last_word_keeps.Goals as goal
 
 pub returns-then-w-rest-ne0 : goal.returns-then-w-rest-ne0
-returns-then-w-rest-ne0 c = rest-fails _ _ c.before.requires (λ z. omega arith) (omega arith)
+returns-then-w-rest-ne0 c = rest-fails _ _ c.requires (λ z. omega arith) (omega arith)
 
 pub returns : goal.returns
-returns c = c.zero_bytes.ensures ∙ rest-law _ _ c.before.before.requires (omega arith)
+returns c = c.zero_bytes.ensures ∙ rest-law _ _ c.requires (omega arith)

@@ -3,22 +3,32 @@
 use native.Mathlib.Omega.{arith}
 use mathlib.Core.Path.{◌≡◌, refl, ◌∙◌}
 use native.Mathlib.Numerals.{add-one}
+use Prim.Native.Nat.{◌+◌}
+use borrow.Rule.Slice.PartMut.{mid_len}
+use Rattle.std.proofs.lemmas.List.Edits.{get_or-between}
 use Rattle.basics.specs.Choice.{every}
 use Rattle.names.specs.Hashes.{mixed_words}
 use Rattle.names.proofs.Zeros.{or-none}
 use Rattle.names.proofs.pass_words.Goals as goal
 
-pub loop-q-preserved : goal.loop-q-preserved
+pub loop-word-preserved : goal.loop-word-preserved
 unfolding every mixed_words
-loop-q-preserved c = let l = c.before.before.before.before.loop-q in
-    let z = c.before.zero_bytes-zeros in
-    (omega arith, or-none l.zeros z.result ∙ rw (l.invariant.1, z.ensures, add-one), c.mixed-hash.ensures ∙ rw (l.invariant.2, add-one))
+loop-word-preserved c =
+    let l = c.loop-word in
+    let a = c.args in
+    let z = c.zero_bytes-zeros in
+    let long = mid_len a.from (a.from + a.n) a.words.now c.requires in
+    let here = get_or-between a.words.now a.from (a.from + a.n) l.word-index 0 (omega arith) in
+    (or-none l.zeros z.result ∙ rw (l.invariant.0, z.ensures, here, add-one), c.mixed-hash.ensures ∙ rw (l.invariant.1, here, add-one))
 
 pub returns : goal.returns
-returns c = let l = c.before.loop-q in
-    let past : l.q ≡ c.before.before.before.args.n = omega (arith, l.invariant.0, c.loop-q-test.false) in
-    (l.invariant.1 ∙ rw past, l.invariant.2 ∙ rw past)
+returns c =
+    let l = c.loop-word in
+    let a = c.args in
+    let long = mid_len a.from (a.from + a.n) a.words.now c.requires in
+    let past : l.word-index ≡ a.n = omega (arith, l.auto.word-index-end, c.loop-word-test.false) in
+    (l.invariant.0 ∙ rw past, l.invariant.1 ∙ rw past)
 
-pub loop-q-init : goal.loop-q-init
+pub loop-word-init : goal.loop-word-init
 unfolding every mixed_words
-loop-q-init c = (omega arith, refl, refl)
+loop-word-init c = (refl, refl)

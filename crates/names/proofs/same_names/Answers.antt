@@ -7,8 +7,7 @@ use Rattle.names.proofs.same_names.Goals as goal
 
 pub returns : goal.returns
 returns c =
-    let p = c.before.before.before.requires in
-    c.same_words.ensures ∙ pair-words _ _ _ _ _ p.0 p.3 p.4 (omega arith)
+    c.same_words.ensures ∙ pair-words _ _ _ _ _ c.requires.0 c.requires.3 c.requires.4 (omega arith)
 
 pub returns-then-n-m : goal.returns-then-n-m
 returns-then-n-m c = lengths_differ _ _ _ _ _ (λ e. omega arith)

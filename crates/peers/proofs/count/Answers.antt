@@ -19,12 +19,12 @@ pub loop-p-preserved : goal.loop-p-preserved
 loop-p-preserved c =
     let l = c.loop-p in
     let a = c.args in
-    (omega arith, omega (arith, c.mark_of-n.ensures, bit-few (marks_at a.state.now a.channel) l.p), rw (l.invariant.2, c.mark_of-n.ensures) (sym (one-counted _ _ _)))
+    (omega (arith, c.mark_of-n.ensures, bit-few (marks_at a.state.now a.channel) l.p), rw (l.invariant.1, c.mark_of-n.ensures) (sym (one-counted _ _ _)))
 
 pub returns : goal.returns
 returns c =
     let a = c.args in
-    c.loop-p.invariant.2 ∙ ap (λ (k : ℕ). peers_below a.state.now a.channel k) (le_antisymm c.loop-p.invariant.0 c.loop-p-test.false)
+    c.loop-p.invariant.1 ∙ ap (λ (k : ℕ). peers_below a.state.now a.channel k) (le_antisymm c.loop-p.auto.p-end c.loop-p-test.false)
 
 pub loop-p-init : goal.loop-p-init
-loop-p-init c = (omega arith, omega arith, sym (none-counted _ _))
+loop-p-init c = (omega arith, sym (none-counted _ _))

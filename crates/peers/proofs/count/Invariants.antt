@@ -7,7 +7,4 @@ use Rattle.model.specs.Peers.{peers_below}
 use Rattle.peers.proofs.count.Given as goal
 
 abbrev pub invariant-loop-p : goal.invariant-loop-p
-invariant-loop-p l = (l.p ≤ most_ids) × (l.n ≤ l.p) × (l.n ≡ peers_below l.state l.channel l.p)
-
-abbrev pub decreases-loop-p : goal.decreases-loop-p
-decreases-loop-p l = most_ids - l.p
+invariant-loop-p l = (l.n ≤ l.p) × (l.n ≡ peers_below l.state l.channel l.p)

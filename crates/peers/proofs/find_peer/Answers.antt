@@ -9,15 +9,15 @@ use Rattle.peers.proofs.find_peer.Goals as goal
 
 pub returns-then-peered_as : goal.returns-then-peered_as
 returns-then-peered_as c =
-    found_here _ _ _ c.loop-p.invariant.1 c.loop-p-test.true
+    found_here _ _ _ c.loop-p.invariant c.loop-p-test.true
     (sym c.peered_as.ensures ∙ c.if-peered_as.true)
 
 pub loop-p-preserved : goal.loop-p-preserved
 loop-p-preserved c =
-    (omega arith, none_more _ _ c.loop-p.invariant.1 (sym c.peered_as.ensures ∙ c.if-peered_as.false))
+    none_more _ _ c.loop-p.invariant (sym c.peered_as.ensures ∙ c.if-peered_as.false)
 
 pub returns : goal.returns
-returns c = found_nowhere _ _ _ c.loop-p.invariant.1 c.loop-p-test.false
+returns c = found_nowhere _ _ _ c.loop-p.invariant c.loop-p-test.false
 
 pub loop-p-init : goal.loop-p-init
-loop-p-init c = (omega arith, none_first _)
+loop-p-init c = none_first _

@@ -7,7 +7,4 @@ use Rattle.basics.proofs.Loops.{NoneBelow}
 use Rattle.peers.proofs.find_peer.Given as goal
 
 abbrev pub invariant-loop-p : goal.invariant-loop-p
-invariant-loop-p l = (l.p ≤ most_ids) × NoneBelow (peered_as l.state l.channel l.handle) l.p
-
-abbrev pub decreases-loop-p : goal.decreases-loop-p
-decreases-loop-p l = most_ids - l.p
+invariant-loop-p l = NoneBelow (peered_as l.state l.channel l.handle) l.p

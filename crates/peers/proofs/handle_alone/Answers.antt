@@ -16,15 +16,15 @@ returns-then-mark_of-eq0 c e = apart-unmarked _ _ _ (sym c.mark_of.ensures ∙ c
 
 pub loop-j-preserved : goal.loop-j-preserved
 loop-j-preserved c =
-    (omega arith, every_more _ _ c.loop-j.invariant.1 (rw (← c.handle_of.ensures, ne_eqb _ _ c.if-handle_of-handle.false) (or-true _)))
+    every_more _ _ c.loop-j.invariant (rw (← c.handle_of.ensures, ne_eqb _ _ c.if-handle_of-handle.false) (or-true _))
 
 pub returns : goal.returns
 returns c e =
     apart-marked _ _ _ _ c.handle_of-handle.ensures (λ z. c.if-mark_of-eq0.false (c.mark_of.ensures ∙ z))
-    ∙ sym (every-all _ _ _ c.loop-j.invariant.0 c.loop-j-test.false c.loop-j.invariant.1)
+    ∙ sym (every-all _ _ _ c.loop-j.auto.j-end c.loop-j-test.false c.loop-j.invariant)
 
 pub loop-j-init : goal.loop-j-init
-loop-j-init c = (omega arith, every-none _)
+loop-j-init c = every-none _
 
 pub returns-then-handle_of-handle : goal.returns-then-handle_of-handle
 returns-then-handle_of-handle c e = absurd (clash false refl e)

@@ -9,7 +9,4 @@ use Rattle.model.specs.Layout.{peered_at, peer_handle_at}
 use Rattle.peers.proofs.handle_alone.Given as goal
 
 abbrev pub invariant-loop-j : goal.invariant-loop-j
-invariant-loop-j l = (l.j ≤ l.p) × (every l.j (λ k. eqb (peered_at l.state l.channel k) 0 or not (eqb (peer_handle_at l.state l.channel k) l.handle)) ≡ true)
-
-abbrev pub decreases-loop-j : goal.decreases-loop-j
-decreases-loop-j l = l.p - l.j
+invariant-loop-j l = every l.j (λ k. eqb (peered_at l.state l.channel k) 0 or not (eqb (peer_handle_at l.state l.channel k) l.handle)) ≡ true

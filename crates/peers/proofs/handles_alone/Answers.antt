@@ -13,13 +13,13 @@ use Rattle.peers.proofs.handles_alone.Goals as goal
 
 pub loop-p-preserved : goal.loop-p-preserved
 loop-p-preserved c =
-    (omega arith, every_more _ _ c.loop-p.invariant.1 (c.handle_alone.ensures (not-false _ (ap not c.if-not-handle_alone.false))))
+    every_more _ _ c.loop-p.invariant (c.handle_alone.ensures (not-false _ (ap not c.if-not-handle_alone.false)))
 
 pub returns : goal.returns
-returns c e = sym (every-all _ _ _ c.loop-p.invariant.0 c.loop-p-test.false c.loop-p.invariant.1)
+returns c e = sym (every-all _ _ _ c.loop-p.auto.p-end c.loop-p-test.false c.loop-p.invariant)
 
 pub loop-p-init : goal.loop-p-init
-loop-p-init c = (omega arith, every-none _)
+loop-p-init c = every-none _
 
 pub returns-then-not-handle_alone : goal.returns-then-not-handle_alone
 returns-then-not-handle_alone c e = absurd (clash false refl e)

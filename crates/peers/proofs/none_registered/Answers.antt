@@ -22,17 +22,14 @@ next f n before here i h p = go (eqb i n) refl
 pub loop-c-preserved : goal.loop-c-preserved
 loop-c-preserved c =
     let l = c.loop-c in
-    let s = c.args.state.now in (
-      omega arith,
-      λ t.
+    let s = c.args.state.now in λ t.
           let b = both _ _ (sym (both-pass l.none c.none_marked-none.result) ∙ t) in
-          next (peered_at s) l.c (l.invariant.1 b.0) (c.none_marked-none.ensures b.1),
-    )
+          next (peered_at s) l.c (l.invariant b.0) (c.none_marked-none.ensures b.1)
 
 pub returns : goal.returns
 returns c =
-    let past : c.loop-c.c ≡ channel_count = omega (arith, c.loop-c.invariant.0, c.loop-c-test.false) in
-    λ t i h. c.loop-c.invariant.1 t i (omega arith)
+    let past : c.loop-c.c ≡ channel_count = omega (arith, c.loop-c.auto.c-end, c.loop-c-test.false) in
+    λ t i h. c.loop-c.invariant t i (omega arith)
 
 pub loop-c-init : goal.loop-c-init
-loop-c-init c = (omega arith, λ _ i h. absurd (omega arith))
+loop-c-init c = λ _ i h. absurd (omega arith)

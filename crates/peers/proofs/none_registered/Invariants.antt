@@ -7,7 +7,4 @@ use Rattle.model.specs.Layout.{channel_count, peered_at}
 use Rattle.peers.proofs.none_registered.Given as goal
 
 abbrev pub invariant-loop-c : goal.invariant-loop-c
-invariant-loop-c l = (l.c ≤ channel_count) × (l.none ≡ true → (i : ℕ) → i < l.c → (p : ℕ) → peered_at l.state i p ≡ 0)
-
-abbrev pub decreases-loop-c : goal.decreases-loop-c
-decreases-loop-c l = channel_count - l.c
+invariant-loop-c l = l.none ≡ true → (i : ℕ) → i < l.c → (p : ℕ) → peered_at l.state i p ≡ 0

@@ -28,11 +28,11 @@ returns-then-not-differs c =
     every-fails _ _ _ c.loop-q-test.true (no _ c.differs.ensures (ap not c.if-not-differs.true)) ∙ marked (search)
 
 pub loop-q-preserved : goal.loop-q-preserved
-loop-q-preserved c = (omega arith, every_more _ _ c.loop-q.invariant.1 (yes _ c.differs.ensures (ap not c.if-not-differs.false)))
+loop-q-preserved c = every_more _ _ c.loop-q.invariant (yes _ c.differs.ensures (ap not c.if-not-differs.false))
 
 pub returns : goal.returns
 returns c =
-    every-all _ _ _ c.loop-q.invariant.0 c.loop-q-test.false c.loop-q.invariant.1 ∙ marked (search)
+    every-all _ _ _ c.loop-q.auto.q-end c.loop-q-test.false c.loop-q.invariant ∙ marked (search)
 
 pub loop-q-init : goal.loop-q-init
-loop-q-init c = (omega arith, every-none _)
+loop-q-init c = every-none _

@@ -9,7 +9,4 @@ use Rattle.model.specs.Layout.{peered_at, peer_handle_at}
 use Rattle.peers.proofs.peer_apart.Given as goal
 
 abbrev pub invariant-loop-q : goal.invariant-loop-q
-invariant-loop-q l = (l.q ≤ l.p) × (every l.q (λ k. eqb (peered_at l.state l.channel k) 0 or not (eqb (peer_handle_at l.state l.channel k) l.handle)) ≡ true)
-
-abbrev pub decreases-loop-q : goal.decreases-loop-q
-decreases-loop-q l = l.p - l.q
+invariant-loop-q l = every l.q (λ k. eqb (peered_at l.state l.channel k) 0 or not (eqb (peer_handle_at l.state l.channel k) l.handle)) ≡ true

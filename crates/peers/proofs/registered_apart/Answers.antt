@@ -13,10 +13,10 @@ pub returns-then-not-peer_apart : goal.returns-then-not-peer_apart
 returns-then-not-peer_apart c = every-fails _ _ _ c.loop-p-test.true (no _ c.peer_apart.ensures (ap not c.if-not-peer_apart.true))
 
 pub loop-p-preserved : goal.loop-p-preserved
-loop-p-preserved c = (omega arith, every_more _ _ c.loop-p.invariant.1 (yes _ c.peer_apart.ensures (ap not c.if-not-peer_apart.false)))
+loop-p-preserved c = every_more _ _ c.loop-p.invariant (yes _ c.peer_apart.ensures (ap not c.if-not-peer_apart.false))
 
 pub returns : goal.returns
-returns c = every-all _ _ _ c.loop-p.invariant.0 c.loop-p-test.false c.loop-p.invariant.1
+returns c = every-all _ _ _ c.loop-p.auto.p-end c.loop-p-test.false c.loop-p.invariant
 
 pub loop-p-init : goal.loop-p-init
-loop-p-init c = (omega arith, every-none _)
+loop-p-init c = every-none _

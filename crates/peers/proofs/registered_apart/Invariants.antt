@@ -9,7 +9,4 @@ use Rattle.model.specs.Peers.{peer_apart}
 use Rattle.peers.proofs.registered_apart.Given as goal
 
 abbrev pub invariant-loop-p : goal.invariant-loop-p
-invariant-loop-p l = (l.p ≤ most_ids) × (every l.p (peer_apart l.state l.channel) ≡ true)
-
-abbrev pub decreases-loop-p : goal.decreases-loop-p
-decreases-loop-p l = most_ids - l.p
+invariant-loop-p l = every l.p (peer_apart l.state l.channel) ≡ true

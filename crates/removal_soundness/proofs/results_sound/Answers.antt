@@ -21,17 +21,17 @@ returns-then-not-result_sound c =
 pub loop-i-preserved : goal.loop-i-preserved
 loop-i-preserved c =
     let l = c.loop-i in
-    (omega arith, every_more _ _ l.invariant.1 (yes _ c.result_sound.ensures (ap not c.if-not-result_sound.false)))
+    every_more _ _ l.invariant (yes _ c.result_sound.ensures (ap not c.if-not-result_sound.false))
 
 pub returns : goal.returns
 unfolding removal_of
 returns c =
-    every-all _ _ _ c.loop-i.invariant.0 c.loop-i-test.false c.loop-i.invariant.1
+    every-all _ _ _ c.loop-i.auto.i-end c.loop-i-test.false c.loop-i.invariant
     ∙ sym (results-words c.args.state.now (omega arith))
 
 pub loop-i-init : goal.loop-i-init
 unfolding removal_of
-loop-i-init c = (omega arith, every-none _)
+loop-i-init c = every-none _
 
 pub overflow_add-i : goal.overflow_add-i
 unfolding removal_of

@@ -10,7 +10,4 @@ use Rattle.model.specs.State.{result_sound}
 use Rattle.removal_soundness.proofs.results_sound.Given as goal
 
 abbrev pub invariant-loop-i : goal.invariant-loop-i
-invariant-loop-i l = (l.i ≤ l.n) × (every l.i (λ k. result_sound (get_or l.state (first_result_word + k) 0)) ≡ true)
-
-abbrev pub decreases-loop-i : goal.decreases-loop-i
-decreases-loop-i l = l.n - l.i
+invariant-loop-i l = every l.i (λ k. result_sound (get_or l.state (first_result_word + k) 0)) ≡ true

@@ -14,7 +14,7 @@ loop-i-preserved c =
     let a = c.args in
     let f : ℕ → ℕ = λ k. number_at a.b.now (a.at + k * pair_bytes) 8 in
     let e = tabulate-length f most_records in
-    (omega arith, rw (l.invariant.1, c.number_of.ensures, ← tabulate-at f most_records l.i 0 (omega arith)) (sets_more _ (tabulate f most_records) a.word l.i 0 (omega arith)))
+    rw (l.invariant, c.number_of.ensures, ← tabulate-at f most_records l.i 0 (omega arith)) (sets_more _ (tabulate f most_records) a.word l.i 0 (omega arith))
 
 pub returns : goal.returns
 returns c =
@@ -22,7 +22,7 @@ returns c =
     let a = c.args in
     let f : ℕ → ℕ = λ k. number_at a.b.now (a.at + k * pair_bytes) 8 in
     let e = tabulate-length f most_records in
-    l.invariant.1 ∙ sets-done _ (tabulate f most_records) a.word l.i (omega arith)
+    l.invariant ∙ sets-done _ (tabulate f most_records) a.word l.i (omega arith)
 
 pub loop-i-init : goal.loop-i-init
-loop-i-init c = (omega arith, refl)
+loop-i-init c = refl

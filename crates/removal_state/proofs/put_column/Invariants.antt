@@ -8,7 +8,4 @@ use Rattle.model.specs.Layout.{most_records, pair_bytes}
 use Rattle.removal_state.proofs.put_column.Given as goal
 
 abbrev pub invariant-loop-i : goal.invariant-loop-i
-invariant-loop-i l = (l.i ≤ most_records) × (l.state ≡ sets l.initial.state l.word (take l.i (tabulate (λ k. number_at l.b (l.at + k * pair_bytes) 8) most_records)))
-
-abbrev pub decreases-loop-i : goal.decreases-loop-i
-decreases-loop-i l = most_records - l.i
+invariant-loop-i l = l.state ≡ sets l.initial.state l.word (take l.i (tabulate (λ k. number_at l.b (l.at + k * pair_bytes) 8) most_records))

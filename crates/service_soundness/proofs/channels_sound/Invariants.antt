@@ -9,7 +9,4 @@ use Rattle.model.specs.Layout.{ready_at, channel_count}
 use Rattle.service_soundness.proofs.channels_sound.Given as goal
 
 abbrev pub invariant-loop-c : goal.invariant-loop-c
-invariant-loop-c l = (l.c ≤ channel_count) × (every l.c (λ i. leb (ready_at l.state i) 1) ≡ true)
-
-abbrev pub decreases-loop-c : goal.decreases-loop-c
-decreases-loop-c l = channel_count - l.c
+invariant-loop-c l = every l.c (λ i. leb (ready_at l.state i) 1) ≡ true

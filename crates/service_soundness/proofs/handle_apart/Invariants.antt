@@ -7,7 +7,4 @@ use Rattle.model.specs.Layout.{stage_idle, stage_at, handle_at}
 use Rattle.service_soundness.proofs.handle_apart.Given as goal
 
 abbrev pub invariant-loop-j : goal.invariant-loop-j
-invariant-loop-j l = (l.j ≤ l.k) × (every l.j (λ i. eqb (stage_at l.state i) stage_idle or not (eqb (handle_at l.state i) (handle_at l.state l.k))) ≡ true)
-
-abbrev pub decreases-loop-j : goal.decreases-loop-j
-decreases-loop-j l = l.k - l.j
+invariant-loop-j l = every l.j (λ i. eqb (stage_at l.state i) stage_idle or not (eqb (handle_at l.state i) (handle_at l.state l.k))) ≡ true

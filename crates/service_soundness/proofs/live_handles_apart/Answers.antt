@@ -13,10 +13,10 @@ pub returns-then-not-handle_apart : goal.returns-then-not-handle_apart
 returns-then-not-handle_apart c = every-fails _ _ _ c.loop-k-test.true (no _ c.handle_apart.ensures (ap not c.if-not-handle_apart.true))
 
 pub loop-k-preserved : goal.loop-k-preserved
-loop-k-preserved c = (omega arith, every_more _ _ c.loop-k.invariant.1 (yes _ c.handle_apart.ensures (ap not c.if-not-handle_apart.false)))
+loop-k-preserved c = every_more _ _ c.loop-k.invariant (yes _ c.handle_apart.ensures (ap not c.if-not-handle_apart.false))
 
 pub returns : goal.returns
-returns c = every-all _ _ _ c.loop-k.invariant.0 c.loop-k-test.false c.loop-k.invariant.1
+returns c = every-all _ _ _ c.loop-k.auto.k-end c.loop-k-test.false c.loop-k.invariant
 
 pub loop-k-init : goal.loop-k-init
-loop-k-init c = (omega arith, every-none _)
+loop-k-init c = every-none _

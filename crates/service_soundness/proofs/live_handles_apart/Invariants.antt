@@ -9,7 +9,4 @@ use Rattle.model.specs.Layout.{place_count}
 use Rattle.service_soundness.proofs.live_handles_apart.Given as goal
 
 abbrev pub invariant-loop-k : goal.invariant-loop-k
-invariant-loop-k l = (l.k ≤ place_count) × (every l.k (λ i. handle_apart l.state i) ≡ true)
-
-abbrev pub decreases-loop-k : goal.decreases-loop-k
-decreases-loop-k l = place_count - l.k
+invariant-loop-k l = every l.k (λ i. handle_apart l.state i) ≡ true

@@ -14,10 +14,10 @@ returns-then-not-service_sound c =
 
 pub loop-k-preserved : goal.loop-k-preserved
 loop-k-preserved c =
-    (omega arith, every_more _ _ c.loop-k.invariant.1 (yes _ c.service_sound.ensures (ap not c.if-not-service_sound.false)))
+    every_more _ _ c.loop-k.invariant (yes _ c.service_sound.ensures (ap not c.if-not-service_sound.false))
 
 pub returns : goal.returns
-returns c = every-all _ _ _ c.loop-k.invariant.0 c.loop-k-test.false c.loop-k.invariant.1
+returns c = every-all _ _ _ c.loop-k.auto.k-end c.loop-k-test.false c.loop-k.invariant
 
 pub loop-k-init : goal.loop-k-init
-loop-k-init c = (omega arith, every-none _)
+loop-k-init c = every-none _
