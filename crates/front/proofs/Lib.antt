@@ -1,5 +1,6 @@
 -- Laws that several proofs cite.
 -- Assumes nothing.
+pub mod Lent
 pub mod Sounds
 pub mod Changes
 pub mod Reopens

@@ -24,18 +24,28 @@ rows-first (r ∷ xs) ys n = go r.when n (rows-first xs ys)
     go true m f = unfold pick in refl
     go false m f = unfold pick in (f (unfold pick in m))
 
--- drain's refusals are the first two of every action
-module _ (s : List ℕ) (words bytes : ℕ) (within may : Bool) where
-  pub refusal-first : (drain_refusal s words ≡ 0 → ⊥) → action_refusal s words bytes within may ≡ drain_refusal s words
-  unfolding action_refusal drain_refusal
-  refusal-first n = rows-first (lent_rows s words) (action_rows s bytes within may) n
+-- the rows of every call come first
+module _ (s : List ℕ) (words : ℕ) (ys : List Row) where
+  pub lent-first : (drain_refusal s words ≡ 0 → ⊥) → refusal_in (lent_rows s words ++ ys) ≡ drain_refusal s words
+  unfolding drain_refusal
+  lent-first n = rows-first (lent_rows s words) ys n
 
-  pub refusal-past : drain_refusal s words ≡ 0 → action_refusal s words bytes within may ≡ refusal_in (action_rows s bytes within may)
-  unfolding action_refusal drain_refusal
-  refusal-past e =
+  pub lent-past : drain_refusal s words ≡ 0 → refusal_in (lent_rows s words ++ ys) ≡ refusal_in ys
+  unfolding drain_refusal
+  lent-past e =
       let p = row-passed _ _ refl e in
       let q = row-passed _ _ refl p.1 in
       unfold refusal_in pick in rw (p.0, q.0)
+
+-- drain's refusals are the first two of every action
+module _ (s : List ℕ) (words bytes : ℕ) (within may : Bool) where
+  pub refusal-first : (drain_refusal s words ≡ 0 → ⊥) → action_refusal s words bytes within may ≡ drain_refusal s words
+  unfolding action_refusal
+  refusal-first n = lent-first s words (action_rows s bytes within may) n
+
+  pub refusal-past : drain_refusal s words ≡ 0 → action_refusal s words bytes within may ≡ refusal_in (action_rows s bytes within may)
+  unfolding action_refusal
+  refusal-past e = lent-past s words (action_rows s bytes within may) e
 
   -- past them, what the rows of an action give, with the state's length
   pub refused-by : 0 ≡ drain_refusal s words → length s ≡ state_words → {n : ℕ} → refusal_in (action_rows s bytes within may) ≡ n → (n ≡ action_refusal s words bytes within may) × (length s ≡ state_words)

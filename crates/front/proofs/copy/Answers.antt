@@ -1,19 +1,15 @@
--- `front::copy` meets its contract: the loop's invariant is that the bytes passed are stored, and the measure the bytes left.
+-- `front::copy` meets its contract: the part that is copied to is a run of stores.
 -- Assumes nothing.
-use native.Mathlib.Omega.{arith}
-use mathlib.Core.Path.{refl, ap, ◌∙◌}
-use Prim.Native.Nat.{◌-◌}
-use lib.Seq.{sets, take_all}
-use Rattle.wire.proofs.Laws.{sets_more}
+use Rattle.std.proofs.Common.{◌+◌, arith, sym, ◌∙◌, ap}
+use borrow.Rule.Slice.PartMut.{mid_len}
+use lib.ListN.{length}
+use Rattle.wire.proofs.Laws.{part-stored}
 use Rattle.front.proofs.copy.Goals as goal
-
-pub loop-i-preserved : goal.loop-i-preserved
-loop-i-preserved c = (omega arith, sets_more _ _ _ _ c.loop-i-test.true c.loop-i.invariant.1)
 
 pub returns : goal.returns
 returns c =
-    let l = c.loop-i in
-    l.invariant.1 ∙ ap (sets _ _) (take_all l.i c.args.piece.now (omega arith))
-
-pub loop-i-init : goal.loop-i-init
-loop-i-init c = (omega arith, refl)
+    let e = c.copy_from_slice.ensures in
+    let b = c.args.bytes.now in
+    let n = length c.args.piece.now in
+    let long = mid_len c.args.at (c.args.at + n) b (omega (arith, c.requires, c.told-bytes)) in
+    rw e.after (part-stored b c.args.piece.now c.args.at _ (omega (arith, c.requires, c.told-bytes)) (ap length (sym e.after) ∙ e.len ∙ long))

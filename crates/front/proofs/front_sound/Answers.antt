@@ -11,14 +11,14 @@ use Rattle.front.proofs.front_sound.Goals as goal
 
 pub returns-then-not-channel_sound : goal.returns-then-not-channel_sound
 unfolding front_sound
-returns-then-not-channel_sound c = (every-fails _ _ _ c.loop-c-test.true (no _ c.channel_sound.ensures (ap not c.if-not-channel_sound.true)), c.word_count.ensures.1, c.byte_count.ensures.1)
+returns-then-not-channel_sound c = every-fails _ _ _ c.loop-c-test.true (no _ c.channel_sound.ensures (ap not c.if-not-channel_sound.true))
 
 pub loop-c-preserved : goal.loop-c-preserved
-loop-c-preserved c = (omega arith, every_more _ _ c.loop-c.invariant.1 (yes _ c.channel_sound.ensures (ap not c.if-not-channel_sound.false)))
+loop-c-preserved c = every_more _ _ c.loop-c.invariant (yes _ c.channel_sound.ensures (ap not c.if-not-channel_sound.false))
 
 pub returns : goal.returns
 unfolding front_sound
-returns c = (every-all _ _ _ c.loop-c.invariant.0 c.loop-c-test.false c.loop-c.invariant.1, c.word_count.ensures.1, c.byte_count.ensures.1)
+returns c = every-all _ _ _ (omega arith) c.loop-c-test.false c.loop-c.invariant
 
 pub loop-c-init : goal.loop-c-init
-loop-c-init c = (omega arith, every-none _)
+loop-c-init c = every-none _

@@ -1,15 +1,10 @@
 -- `front::front_sound` meets its contract: every channel passed is sound.
 -- Assumes nothing.
-use mathlib.Core.Bool.{true}
 use mathlib.Core.Path.{◌≡◌}
-use Prim.Native.Nat.{◌≤◌, ◌-◌}
+use mathlib.Core.Bool.{true}
 use Rattle.basics.specs.Choice.{every}
-use Rattle.model.specs.Layout.{channel_count}
 use Rattle.front_model.specs.Front.{front_sound_at}
 use Rattle.front.proofs.front_sound.Given as goal
 
 abbrev pub invariant-loop-c : goal.invariant-loop-c
-invariant-loop-c l = (l.c ≤ channel_count) × (every l.c (λ i. front_sound_at (record { words = l.words; bytes = l.bytes }) i) ≡ true)
-
-abbrev pub decreases-loop-c : goal.decreases-loop-c
-decreases-loop-c l = channel_count - l.c
+invariant-loop-c l = every l.c (λ i. front_sound_at (record { words = l.words; bytes = l.bytes }) i) ≡ true

@@ -1,6 +1,6 @@
 -- `front::give_joined` meets its contract: the message in the room is the kept part and the piece's bytes to its end.
 -- Assumes nothing.
-use mathlib.Core.Path.{◌≡◌, sym, ap, ◌∙◌}
+use mathlib.Core.Path.{refl, ◌≡◌, sym, ap, ◌∙◌}
 use mathlib.Core.List.{List}
 use Prim.Native.Nat.{ℕ, ◌+◌, ◌-◌, ◌*◌, ◌≤◌}
 use native.Mathlib.Omega.{arith}
@@ -10,15 +10,15 @@ use borrow.Author.Tests.{eq-eqb}
 use Rattle.basics.proofs.Choice.{pick_true}
 use Rattle.front_model.specs.Front.{Front, kept_at, most_message}
 use Rattle.front.proofs.Pieces.{answer-none, give-refused, gives-by, kept-length, message-joined}
+use Rattle.soundness.proofs.Refusals.{positive}
 use Rattle.front.proofs.give_joined.Goals as goal
 use Rattle.front.proofs.give_joined.Lts as lts
 use Rattle.front.proofs.give_joined.Reads as reads
 use Rattle.front.proofs.give_joined.Tie as tie
 
-pub returns-then-refusal-ne0 : goal.returns-then-refusal-ne0
-returns-then-refusal-ne0 c =
-    rw c.refused.ensures
-    (give-refused _ _ _ _ _ _ _ _ c.requires _ c.action_refusal-refusal.ensures.0 c.if-refusal-ne0.true)
+pub returns-in-Err : goal.returns-in-Err
+returns-in-Err c =
+    rw (c.refused.ensures, c.number.ensures) (give-refused _ _ _ _ _ _ _ _ c.requires _ c.in-Err.ensures.0 (positive _))
 
 pub kept_of-kept-requires : goal.kept_of-kept-requires
 kept_of-kept-requires c = c.requires.fronts.within
@@ -79,7 +79,7 @@ returns c =
     let v = take (end_of (search) - n) a.piece.now in
     let b = rw q at c.copy.ensures in
     let e = c.part_of-message.ensures ∙ ap (λ (l : List ℕ). take (end_of (search)) (drop (a.channel * most_message) l)) b ∙ message-joined (front (search)) a.channel a.piece.now (end_of (search)) a.next.dropping g in
-    let z = answer-none (front (search)) _ _ a.channel a.piece.now _ (end_of (search)) a.next.dropping g _ c.give-answer.result _ _ _ e c.give-answer.ensures.0 c.action_refusal-refusal.ensures.0 c.if-refusal-ne0.false in
+    let z = answer-none (front (search)) _ _ a.channel a.piece.now _ (end_of (search)) a.next.dropping g _ c.give-answer.result _ _ _ e c.give-answer.ensures.0 c.in_default.ensures.0 refl in
     rw c.given.ensures
     (gives-by (front (search)) _ _ a.channel a.piece.now _ (end_of (search)) a.next.dropping g _ c.give-answer.result _ _ _ _ _ v e c.give-answer.ensures.0
     (omega (arith, q))

@@ -6,14 +6,15 @@ use Prim.Native.Nat.{◌+◌, ◌≤◌}
 use lib.ListN.{length}
 use Rattle.front_model.specs.Front.{Front, most_kept}
 use Rattle.front.proofs.Pieces.{piece-refused, piece-kept, kept-length}
+use Rattle.soundness.proofs.Refusals.{positive}
 use Rattle.front.proofs.keep_piece.Goals as goal
 use Rattle.front.proofs.keep_piece.Lts as lts
 use Rattle.front.proofs.keep_piece.Reads as reads
 use Rattle.front.proofs.keep_piece.Tie as tie
 
-pub returns-then-refusal-ne0 : goal.returns-then-refusal-ne0
-returns-then-refusal-ne0 c =
-    rw c.refused.ensures (piece-refused _ _ _ _ _ _ c.requires.fronts _ c.lent_refusal-refusal.ensures c.if-refusal-ne0.true)
+pub returns-in-Err : goal.returns-in-Err
+returns-in-Err c =
+    rw (c.refused.ensures, c.number.ensures) (piece-refused _ _ _ _ _ _ c.requires.fronts _ c.in-Err.ensures (positive _))
 
 room : (c : (lts.After-kept_of tie.the-claims reads.Pre reads.Post)) → c.kept_of-kept.result + length c.args.piece.now ≤ most_kept
 room c =
@@ -31,7 +32,7 @@ copy-requires c = omega (arith, room (search), c.requires.fronts.within)
 pub returns : goal.returns
 returns c =
     let k = c.kept_of-kept.ensures in
-    piece-kept _ _ _ _ _ _ _ c.requires (sym c.lent_refusal-refusal.ensures ∙ c.if-refusal-ne0.false)
+    piece-kept _ _ _ _ _ _ _ c.requires (sym c.in_default.ensures)
     (record { words = rw k at c.set_words.ensures; bytes = rw k at c.copy.ensures; fits = omega (arith, room (search), k) })
 
 pub overflow_add-kept : goal.overflow_add-kept

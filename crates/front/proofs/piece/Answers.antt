@@ -13,20 +13,20 @@ use Rattle.front.proofs.piece.Tie as tie
 
 pub returns-then-not-front_sound : goal.returns-then-not-front_sound
 returns-then-not-front_sound c =
-    rw c.refused.ensures
-    (piece-unsound _ _ _ _ _ _ (no _ c.front_sound.ensures.0 (ap not c.if-not-front_sound.true)))
+    rw (c.refused.ensures, c.number.ensures)
+    (piece-unsound _ _ _ _ _ _ (no _ c.front_sound.ensures (ap not c.if-not-front_sound.true)))
 
 pub returns-then-channel-ge-CHANNEL_COUNT : goal.returns-then-channel-ge-CHANNEL_COUNT
 returns-then-channel-ge-CHANNEL_COUNT c =
     rw c.refused-then-channel-ge-CHANNEL_COUNT.ensures
-    (piece-outside _ _ _ _ _ _ _ (yes _ c.front_sound.ensures.0 (ap not c.if-not-front_sound.false)) c.if-channel-ge-CHANNEL_COUNT.true c.lent_refusal.ensures)
+    (piece-outside _ _ _ _ _ _ _ (yes _ c.front_sound.ensures (ap not c.if-not-front_sound.false)) c.if-channel-ge-CHANNEL_COUNT.true (c.number_of.ensures ∙ c.check_lent.ensures))
 
 fronts : (c : (lts.Else2 tie.the-claims reads.Pre reads.Post)) → Fronts (record { words = c.args.words.now; bytes = c.args.bytes.now }) c.args.channel
 fronts c =
     record {
-      words = c.front_sound.ensures.1;
-      bytes = c.front_sound.ensures.2;
-      sounds = yes _ c.front_sound.ensures.0 (ap not c.if-not-front_sound.false);
+      words = c.told-words;
+      bytes = c.told-bytes;
+      sounds = yes _ c.front_sound.ensures (ap not c.if-not-front_sound.false);
       within = c.if-channel-ge-CHANNEL_COUNT.false;
     }
 

@@ -8,31 +8,25 @@ use Rattle.basics.proofs.Loops.{no, yes}
 use Rattle.front.specs.Changes.{Fronts}
 use Rattle.front.specs.Refusals.{opening_refusal}
 use Rattle.front.proofs.Reopens.{reopen-unsound, reopen-refused, reopen-done, opening-within}
+use Rattle.soundness.proofs.Refusals.{positive}
 use Rattle.front.proofs.reopen.Goals as goal
-use Rattle.front.proofs.reopen.Lts as lts
-use Rattle.front.proofs.reopen.Reads as reads
-use Rattle.front.proofs.reopen.Tie as tie
 
 pub returns-then-not-front_sound : goal.returns-then-not-front_sound
-returns-then-not-front_sound c = reopen-unsound _ _ _ (no _ c.front_sound.ensures.0 (ap not c.if-not-front_sound.true))
+returns-then-not-front_sound c = rw c.number.ensures (reopen-unsound _ _ _ (no _ c.front_sound.ensures (ap not c.if-not-front_sound.true)))
 
-pub returns-then-refusal-ne0 : goal.returns-then-refusal-ne0
-returns-then-refusal-ne0 c = reopen-refused _ _ _ _ (yes _ c.front_sound.ensures.0 (ap not c.if-not-front_sound.false)) c.reopen_refusal-refusal.ensures c.if-refusal-ne0.true
-
-zero : (c : (lts.Else2 tie.the-claims reads.Pre reads.Post)) → opening_refusal c.args.state.now c.args.channel ≡ 0
-zero c = sym c.reopen_refusal-refusal.ensures ∙ c.if-refusal-ne0.false
-
-opened : (c : (lts.Else2 tie.the-claims reads.Pre reads.Post)) → Fronts (record { words = c.args.words.now; bytes = c.args.bytes.now }) c.args.channel
-opened c =
-    record {
-      words = c.front_sound.ensures.1;
-      bytes = c.front_sound.ensures.2;
-      sounds = yes _ c.front_sound.ensures.0 (ap not c.if-not-front_sound.false);
-      within = opening-within c.args.state.now c.args.channel (zero (search));
-    }
-
-pub returns : goal.returns
-returns c = reopen-done _ _ _ _ (opened (search)) (zero (search)) (record { words = c.set_words.ensures; bytes = refl; fits = omega arith })
+pub returns-in-Err : goal.returns-in-Err
+returns-in-Err c =
+    rw c.number-in-Err.ensures (reopen-refused _ _ _ _ (yes _ c.front_sound.ensures (ap not c.if-not-front_sound.false)) c.in-Err.ensures (positive _))
 
 pub set_words-requires : goal.set_words-requires
-set_words-requires c = (opened (search)).within
+set_words-requires c = opening-within _ _ (sym c.in_default.ensures)
+
+pub returns : goal.returns
+returns c =
+    let opened : Fronts (record { words = c.args.words.now; bytes = c.args.bytes.now }) c.args.channel = record {
+      words = c.told-words;
+      bytes = c.told-bytes;
+      sounds = yes _ c.front_sound.ensures (ap not c.if-not-front_sound.false);
+      within = opening-within _ _ (sym c.in_default.ensures);
+    } in
+    reopen-done _ _ _ _ opened (sym c.in_default.ensures) (record { words = c.set_words.ensures; bytes = refl; fits = omega arith })

@@ -7,7 +7,7 @@ use native.Mathlib.Omega.{arith}
 use lib.ListN.{take, drop}
 use borrow.Author.Tests.{not-true, not-false}
 use Rattle.front_model.specs.Front.{Front, bytes_at, most_message}
-use Rattle.front.specs.Next.{Comes}
+use Rattle.front.specs.Next.{Gives, Keeps}
 use Rattle.front.proofs.Changes.{few-kept}
 use Rattle.front.proofs.Pieces.{begins}
 use Rattle.front.proofs.take_piece.Goals as goal
@@ -27,36 +27,32 @@ kept-part : (c : (lts.After-part_of tie.the-claims reads.Pre reads.Post)) → ta
 kept-part c =
     ap (λ (n : ℕ). take n (drop (c.args.channel * most_message) c.args.bytes.now)) c.kept_of-kept.ensures
 
-pub next_of-next-requires : goal.next_of-next-requires
-next_of-next-requires c =
+pub next_of-requires : goal.next_of-requires
+next_of-requires c =
     rw (c.part_of.ensures ∙ kept-part (search)) (begins (front (search)) c.args.channel c.requires.0 c.requires.1)
-
-comes : (c : (lts.After-next_of tie.the-claims reads.Pre reads.Post)) → Comes (bytes_at (front (search)) c.args.channel) c.args.piece.now c.next_of-next.result
-comes c =
-    subst (λ (p : List ℕ). Comes p c.args.piece.now c.next_of-next.result) (c.part_of.ensures ∙ kept-part (search)) c.next_of-next.ensures
 
 pub keep_piece-requires : goal.keep_piece-requires
 keep_piece-requires c =
     let p = c.requires in
-    record { fronts = p.0; unmarked = p.1; comes = (comes (search)).kept (not-true c.next_of-next.result.given c.if-not-next.true) }
+    record { fronts = p.0; unmarked = p.1; comes = subst (λ (q : List ℕ). Keeps q c.args.piece.now) (c.part_of.ensures ∙ kept-part (search)) c.in_default.ensures }
 
 pub give_whole-requires : goal.give_whole-requires
 give_whole-requires c =
     let p = c.requires in (
-      record { fronts = p.0; unmarked = p.1; comes = (comes (search)).gave (not-false c.next_of-next.result.given c.if-not-next.false) },
+      record { fronts = p.0; unmarked = p.1; comes = subst (λ (q : List ℕ). Gives q c.args.piece.now c.in-Some.next.end c.in-Some.next.dropping) (c.part_of.ensures ∙ kept-part (search)) c.in-Some.ensures },
       sym c.kept_of-kept.ensures ∙ c.if-kept-eq0.true,
     )
 
 pub give_joined-requires : goal.give_joined-requires
 give_joined-requires c =
     let p = c.requires in
-    record { fronts = p.0; unmarked = p.1; comes = (comes (search)).gave (not-false c.next_of-next.result.given c.if-not-next.false) }
+    record { fronts = p.0; unmarked = p.1; comes = subst (λ (q : List ℕ). Gives q c.args.piece.now c.in-Some.next.end c.in-Some.next.dropping) (c.part_of.ensures ∙ kept-part (search)) c.in-Some.ensures }
 
 pub kept_of-kept-requires : goal.kept_of-kept-requires
 kept_of-kept-requires c = c.requires.0.within
 
-pub returns-then-not-next : goal.returns-then-not-next
-returns-then-not-next c = c.keep_piece.ensures
+pub returns-in_default : goal.returns-in_default
+returns-in_default c = c.keep_piece.ensures
 
 pub returns-then-kept-eq0 : goal.returns-then-kept-eq0
 returns-then-kept-eq0 c = c.give_whole.ensures
