@@ -1,3 +1,2 @@
 -- The proofs of the calls for C.
 mod Part
-mod Given

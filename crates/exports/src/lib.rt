@@ -180,11 +180,8 @@ pub extern "C" fn arkelutz_piece(
     ensures piece_post { PiecePost (record { words = words.entry.now; bytes = bytes.old }) state.old journal.old channel piece.now out.old (record { refusal = result.refusal; taken = result.taken; given = is_set given.new; length = length.new }) (record { words = words.exit.now; bytes = bytes.new }) state.new journal.new out.new }
 {
     let a = front::piece(words, bytes, state, channel, piece, journal, out);
-    if a.given {
-        *given = 1;
-    } else {
-        *given = 0;
-    }
+    let told = u64::from(a.given);
+    *given = told;
     *length = a.length;
     Pieced {
         refusal: a.refusal,
