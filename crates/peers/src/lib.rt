@@ -248,7 +248,7 @@ pub fn none_registered(state: &State) -> bool
 {
     let mut none = true;
     for c in 0..CHANNEL_COUNT {
-        none = none & none_marked(state, c);
+        none &= none_marked(state, c);
     }
     none
 }
