@@ -32,6 +32,8 @@ fn device_keeps(words: &[u64], at: usize, i: usize) -> bool
     )
 }
 
+// The loops of `each_keeps` and `each_apart` differ in the test and in what it may ask of the words, which a closure's
+// contract would have to say for each.
 fn each_keeps(words: &[u64], at: usize, n: usize) -> bool
     requires { at + n * device_words ≤ length words.now }
     ensures { result ≡ every n (device_keeps words.now at) }
