@@ -134,7 +134,8 @@ fn found_at(pages: u64, size: u64, place: usize) -> Option<usize>
 }
 
 // "look for each record by halves, and return which blocks were looked at, in order, each the (lower) middle of those left": `left` blocks
-// are, from `low` on. No index loop: each turn leaves half of them. The array and its count are the list of places without a heap.
+// are, from `low` on.
+// A `while`, as each turn leaves half of them; an array and a count tell the places, as there is no heap.
 pub fn look_for(state: &State, addr: u64, size: u64) -> Searched
     requires { BlocksInOrder state.now }
     ensures { Tells (search_of state.now addr size) result }

@@ -32,6 +32,8 @@ fn device_keeps(words: &[u64], at: usize, i: usize) -> bool
     )
 }
 
+// The loops of `each_keeps` and `each_apart` differ in the test and in what it may ask of the words, which a closure's
+// contract would have to say for each.
 fn each_keeps(words: &[u64], at: usize, n: usize) -> bool
     requires { at + n * device_words ≤ length words.now }
     ensures { result ≡ every n (device_keeps words.now at) }
@@ -90,10 +92,7 @@ fn device_apart(words: &[u64], at: usize, i: usize) -> bool
     requires { (at + i * device_words + device_words ≤ length words.now) × (every (i + 1) (device_keeps words.now at) ≡ true) }
     ensures { result ≡ device_apart words.now at i }
 {
-    if id_apart(words, at, i) {
-        return true;
-    }
-    name_apart(words, at, i)
+    id_apart(words, at, i) || name_apart(words, at, i)
 }
 
 fn each_apart(words: &[u64], at: usize, n: usize) -> bool
@@ -125,10 +124,7 @@ fn all_apart(words: &[u64], at: usize, n: usize) -> bool
     requires { (at + n * device_words ≤ length words.now) × (every n (device_keeps words.now at) ≡ true) }
     ensures { result ≡ every n (device_apart words.now at) }
 {
-    if ids_rise(words, at, n) {
-        return true;
-    }
-    each_apart(words, at, n)
+    ids_rise(words, at, n) || each_apart(words, at, n)
 }
 
 // The `n` devices whose words stand from `at` on keep the rules.
@@ -136,10 +132,7 @@ fn keep_rules(words: &[u64], at: usize, n: usize) -> bool
     requires { (n ≤ most_devices) × (at + n * device_words ≤ length words.now) }
     ensures { result ≡ devices_keep words.now at n }
 {
-    if !each_keeps(words, at, n) {
-        return false;
-    }
-    all_apart(words, at, n)
+    each_keeps(words, at, n) && all_apart(words, at, n)
 }
 
 // Whole devices, not too many, that keep the rules.

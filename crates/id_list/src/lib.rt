@@ -45,6 +45,7 @@ fn id_apart(words: &[u64], at: usize, p: usize) -> bool
     true
 }
 
+// `each_keeps` below is no twin of this loop: it writes the hashes on its way.
 fn each_apart(words: &[u64], at: usize, n: usize) -> bool
     requires { (at + n * id_words ≤ length words.now) × (every n (id_keeps words.now at) ≡ true) }
     ensures { result ≡ every n (id_apart words.now at) }

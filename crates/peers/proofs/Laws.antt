@@ -1,5 +1,8 @@
 -- What the tests of a channel's peer registrations come to, past those that have passed.
 -- Assumes nothing.
+use Rattle.std.specs.Prelude.{Option, Some, None}
+use Rattle.std.specs.Option.{is_some}
+use Rattle.basics.specs.Choice.{is_found}
 use mathlib.Core.Path.{◌≡◌, refl, ◌∙◌}
 use mathlib.Core.Bool.{Bool, true, false, not}
 use mathlib.Core.List.{List, [], ◌∷◌}
@@ -14,6 +17,12 @@ use Rattle.basics.specs.Choice.{◌and◌, ◌or◌, every}
 use Rattle.model.specs.Layout.{most_ids, most_peers, ids_of, id_at, peered_at, peer_handle_at, peer_minor_at}
 use Rattle.model.specs.Peers.{top_bit, peers_below, peer_sound, peer_apart, peers_sound}
 use Rattle.basics.proofs.Choice.{both, each_of}
+
+-- a place is found, in the library's word and in the definitions'
+pub some_found : (x : Option ℕ) → is_some x ≡ is_found x
+unfolding is_found
+some_found (Some i) = refl
+some_found None = refl
 
 -- the bit of an id, in 64 bits
 pub own-bit : (p : ℕ) → p < most_ids → 1 * 2 ^ p % 2 ^ 64 ≡ 2 ^ p

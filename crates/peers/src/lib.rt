@@ -56,10 +56,7 @@ fn peered_as(state: &State, channel: usize, handle: u64, p: usize) -> bool
     requires { (channel < channel_count) × (p < most_ids) }
     ensures { result ≡ peered_as state.now channel handle p }
 {
-    if mark_of(state, channel, p) != 1 {
-        return false;
-    }
-    handle_of(state, channel, p) == handle
+    mark_of(state, channel, p) == 1 && handle_of(state, channel, p) == handle
 }
 
 // The registration that the peer has under the handle, if there is one.
@@ -80,11 +77,7 @@ pub fn has_handle(state: &State, channel: usize, handle: u64) -> bool
     requires { channel < channel_count }
     ensures { result ≡ is_found (peer_for state.now channel handle) }
 {
-    let found = find_peer(state, channel, handle);
-    match found {
-        Some(_) => true,
-        None => false,
-    }
+    find_peer(state, channel, handle).is_some()
 }
 
 // How many registrations the channel has.
@@ -160,10 +153,7 @@ fn differs(state: &State, channel: usize, q: usize, handle: u64) -> bool
     requires { (channel < channel_count) × (q < most_ids) }
     ensures { result ≡ (eqb (peered_at state.now channel q) 0 or not (eqb (peer_handle_at state.now channel q) handle)) }
 {
-    if handle_of(state, channel, q) != handle {
-        return true;
-    }
-    mark_of(state, channel, q) == 0
+    handle_of(state, channel, q) != handle || mark_of(state, channel, q) == 0
 }
 
 // "and differ there": id p's handle from those registered before it.
@@ -228,10 +218,7 @@ fn handles_apart(state: &State, channel: usize) -> bool
     requires { channel < channel_count }
     ensures { result ≡ every most_ids (peer_apart state.now channel) }
 {
-    if handles_alone(state, channel) {
-        return true;
-    }
-    registered_apart(state, channel)
+    handles_alone(state, channel) || registered_apart(state, channel)
 }
 
 // A quick test: no bit is set, and the channel has no registration.
@@ -248,7 +235,7 @@ pub fn none_registered(state: &State) -> bool
 {
     let mut none = true;
     for c in 0..CHANNEL_COUNT {
-        none = none & none_marked(state, c);
+        none &= none_marked(state, c);
     }
     none
 }

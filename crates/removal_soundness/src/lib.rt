@@ -66,10 +66,7 @@ fn collected_sound(collected: u64, room: u64) -> bool
 fn result_sound(res: u64) -> bool
     ensures { result ≡ result_sound res }
 {
-    if res == DR_MEM_RES_OK {
-        return true;
-    }
-    res == DR_MEM_RES_NOWORK
+    res == DR_MEM_RES_OK || res == DR_MEM_RES_NOWORK
 }
 
 // "for each settled record OK or NOWORK"

@@ -91,7 +91,6 @@ pub fn add_pages(state: &mut State, pages: u64)
     requires { (outstanding_of state.old ≡ 1) × (cancelled_of state.old ≤ 1) × ((removal_of state.old).collected + pages < 18446744073709551616) }
     ensures { state.new ≡ with_removal state.old (collecting (removal_of state.old) pages) }
 {
-    state::word_count(state);
     state[COLLECTED_WORD] += pages;
 }
 
@@ -100,7 +99,6 @@ pub fn settle(state: &mut State, res: u64)
     requires { (outstanding_of state.old ≡ 1) × (cancelled_of state.old ≤ 1) × ((removal_of state.old).position < most_records) }
     ensures { state.new ≡ with_removal state.old (settled (removal_of state.old) res) }
 {
-    state::word_count(state);
     let position = state[POSITION_WORD];
     state[FIRST_RESULT_WORD + position as usize] = res;
     state[POSITION_WORD] = position + 1;
@@ -112,7 +110,6 @@ pub fn mark(state: &mut State)
     requires { (outstanding_of state.old ≡ 1) × (cancelled_of state.old ≤ 1) }
     ensures { state.new ≡ with_removal state.old (marked (removal_of state.old)) }
 {
-    state::word_count(state);
     let collected: u64 = 0;
     state[CANCELLED_WORD] = 1;
     state[COLLECTED_WORD] = collected;

@@ -83,10 +83,7 @@ fn differs(state: &State, j: usize, handle: u64) -> bool
     ensures { result ≡ (eqb (stage_at state.now j) stage_idle or not (eqb (handle_at state.now j) handle)) }
 {
     let at = j * SERVICE_WORDS;
-    if state[FIRST_HANDLE_WORD + at] != handle {
-        return true;
-    }
-    state[FIRST_STAGE_WORD + at] == IDLE
+    state[FIRST_HANDLE_WORD + at] != handle || state[FIRST_STAGE_WORD + at] == IDLE
 }
 
 // "live handles differ": the service's at place k from those of the live services before it.
@@ -149,8 +146,5 @@ fn handles_alone(state: &State) -> bool
 pub fn handles_apart(state: &State) -> bool
     ensures { result ≡ every place_count (λ k. handle_apart state.now k) }
 {
-    if handles_alone(state) {
-        return true;
-    }
-    live_handles_apart(state)
+    handles_alone(state) || live_handles_apart(state)
 }

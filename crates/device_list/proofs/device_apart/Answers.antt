@@ -5,7 +5,7 @@ use Rattle.device_list.proofs.Rising.{ids-apart}
 use Rattle.device_list.proofs.device_apart.Goals as goal
 
 pub returns-then-id_apart : goal.returns-then-id_apart
-returns-then-id_apart c = sym (ids-apart _ _ _ (sym c.id_apart.ensures ∙ c.if-id_apart.true))
+returns-then-id_apart c = c.if-id_apart.true ∙ sym (ids-apart _ _ _ (sym c.id_apart.ensures ∙ c.if-id_apart.true))
 
-pub returns : goal.returns
-returns c = c.name_apart.ensures
+pub returns-else-id_apart : goal.returns-else-id_apart
+returns-else-id_apart c = c.name_apart.ensures

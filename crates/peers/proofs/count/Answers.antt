@@ -1,6 +1,6 @@
 -- `peers::count` meets its contract: the marks passed are counted, one at most for each.
 -- Assumes nothing.
-use Prim.Native.Nat.{ℕ, ◌-◌}
+use Prim.Native.Nat.{ℕ}
 use native.Mathlib.Omega.{arith}
 use mathlib.Core.Path.{sym, ap, ◌∙◌}
 use native.Mathlib.Nat.{le_antisymm}
@@ -12,19 +12,16 @@ use Rattle.peers.proofs.count.Goals as goal
 
 pub overflow_add-n : goal.overflow_add-n
 overflow_add-n c =
-    let a = c.args in
-    omega (arith, c.mark_of-n.ensures, bit-few (marks_at a.state.now a.channel) c.loop-p.p)
+    omega (arith, c.mark_of-n.ensures, bit-few (marks_at c.args.state.now c.args.channel) c.loop-p.p)
 
 pub loop-p-preserved : goal.loop-p-preserved
 loop-p-preserved c =
     let l = c.loop-p in
-    let a = c.args in
-    (omega (arith, c.mark_of-n.ensures, bit-few (marks_at a.state.now a.channel) l.p), rw (l.invariant.1, c.mark_of-n.ensures) (sym (one-counted _ _ _)))
+    (omega (arith, c.mark_of-n.ensures, bit-few (marks_at c.args.state.now c.args.channel) l.p), rw (l.invariant.1, c.mark_of-n.ensures) (sym (one-counted _ _ _)))
 
 pub returns : goal.returns
 returns c =
-    let a = c.args in
-    c.loop-p.invariant.1 ∙ ap (λ (k : ℕ). peers_below a.state.now a.channel k) (le_antisymm c.loop-p.auto.p-end c.loop-p-test.false)
+    c.loop-p.invariant.1 ∙ ap (λ (k : ℕ). peers_below c.args.state.now c.args.channel k) (le_antisymm c.loop-p.auto.p-end c.loop-p-test.false)
 
 pub loop-p-init : goal.loop-p-init
 loop-p-init c = (omega arith, sym (none-counted _ _))

@@ -1,8 +1,7 @@
 -- `peers::count` meets its contract: the marks passed are counted, one at most for each.
 -- Assumes nothing.
-use Prim.Native.Nat.{◌≤◌, ◌-◌}
+use Prim.Native.Nat.{◌≤◌}
 use mathlib.Core.Path.{◌≡◌}
-use Rattle.model.specs.Layout.{most_ids}
 use Rattle.model.specs.Peers.{peers_below}
 use Rattle.peers.proofs.count.Given as goal
 

@@ -2,9 +2,8 @@
 -- Assumes nothing.
 use mathlib.Core.Bool.{true}
 use mathlib.Core.Path.{◌≡◌}
-use Prim.Native.Nat.{◌≤◌, ◌-◌}
 use Rattle.basics.specs.Choice.{every}
-use Rattle.model.specs.Layout.{most_ids, ready_at}
+use Rattle.model.specs.Layout.{ready_at}
 use Rattle.model.specs.Peers.{peer_sound}
 use Rattle.peers.proofs.each_sound.Given as goal
 

@@ -1,9 +1,6 @@
 -- `peers::find_peer` meets its contract: no id passed is registered under the handle.
 -- Assumes nothing.
-use native.Mathlib.Omega.{arith}
 use mathlib.Core.Path.{sym, ◌∙◌}
-use Prim.Native.Nat.{◌-◌}
-use Rattle.model.specs.Peers.{peered_as}
 use Rattle.basics.proofs.Loops.{none_first, none_more, found_here, found_nowhere}
 use Rattle.peers.proofs.find_peer.Goals as goal
 

@@ -1,8 +1,6 @@
 -- `peers::find_peer` meets its contract: no id passed is registered under the handle.
 -- Assumes nothing.
-use Prim.Native.Nat.{◌≤◌, ◌-◌}
 use Rattle.model.specs.Peers.{peered_as}
-use Rattle.model.specs.Layout.{most_ids}
 use Rattle.basics.proofs.Loops.{NoneBelow}
 use Rattle.peers.proofs.find_peer.Given as goal
 

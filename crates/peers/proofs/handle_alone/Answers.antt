@@ -1,11 +1,8 @@
 -- `peers::handle_alone` meets its contract: no handle passed is the same, so that none of a registration is.
 -- Assumes nothing.
-use native.Mathlib.Omega.{arith}
-use mathlib.Core.Bool.{true, false}
+use mathlib.Core.Bool.{false}
 use mathlib.Core.Path.{refl, sym, ◌∙◌}
-use Prim.Native.Nat.{◌-◌}
 use borrow.Author.Tests.{ne_eqb}
-use Rattle.basics.specs.Choice.{◌or◌}
 use Rattle.basics.proofs.Choice.{clash, or-true}
 use Rattle.basics.proofs.Loops.{every-none, every_more, every-all}
 use Rattle.peers.proofs.Laws.{apart-unmarked, apart-marked}

@@ -2,9 +2,7 @@
 -- Assumes nothing.
 use mathlib.Core.Bool.{true}
 use mathlib.Core.Path.{◌≡◌}
-use Prim.Native.Nat.{◌≤◌, ◌-◌}
 use Rattle.basics.specs.Choice.{every}
-use Rattle.model.specs.Layout.{most_ids}
 use Rattle.model.specs.Peers.{peer_apart}
 use Rattle.peers.proofs.handles_alone.Given as goal
 

@@ -1,12 +1,9 @@
--- `peers::has_handle` meets its contract.
+-- `peers::has_handle` meets its contract: the search's answer is `Some`.
 -- Assumes nothing.
+use mathlib.Core.Path.{ap, ◌∙◌}
 use Rattle.basics.specs.Choice.{is_found}
+use Rattle.peers.proofs.Laws.{some_found}
 use Rattle.peers.proofs.has_handle.Goals as goal
 
-pub returns-in-Some : goal.returns-in-Some
-unfolding is_found
-returns-in-Some c = rw (← c.find_peer-found.ensures, c.in-Some.is)
-
-pub returns-in-None : goal.returns-in-None
-unfolding is_found
-returns-in-None c = rw (← c.find_peer-found.ensures, c.in-None.is)
+pub returns : goal.returns
+returns c = c.is_some.ensures ∙ some_found c.find_peer.result ∙ ap is_found c.find_peer.ensures

@@ -3,7 +3,7 @@
 use native.Mathlib.Omega.{arith}
 use mathlib.Core.Bool.{Bool, true, false}
 use mathlib.Core.Path.{◌≡◌, refl, sym, ◌∙◌}
-use Prim.Native.Nat.{ℕ, ◌+◌, ◌-◌, ◌<◌}
+use Prim.Native.Nat.{ℕ, ◌+◌, ◌<◌}
 use lib.Dec.{eqb}
 use borrow.Author.Tests.{eqb-true, eqb-false}
 use Rattle.model.specs.Layout.{channel_count, peered_at}
@@ -23,8 +23,8 @@ pub loop-c-preserved : goal.loop-c-preserved
 loop-c-preserved c =
     let l = c.loop-c in
     let s = c.args.state.now in λ t.
-          let b = both _ _ (sym (both-pass l.none c.none_marked-none.result) ∙ t) in
-          next (peered_at s) l.c (l.invariant b.0) (c.none_marked-none.ensures b.1)
+    let b = both _ _ (sym (both-pass l.none c.none_marked-none.result) ∙ t) in
+    next (peered_at s) l.c (l.invariant b.0) (c.none_marked-none.ensures b.1)
 
 pub returns : goal.returns
 returns c =

@@ -2,8 +2,8 @@
 -- Assumes nothing.
 use mathlib.Core.Bool.{true}
 use mathlib.Core.Path.{◌≡◌}
-use Prim.Native.Nat.{ℕ, ◌-◌, ◌<◌, ◌≤◌}
-use Rattle.model.specs.Layout.{channel_count, peered_at}
+use Prim.Native.Nat.{ℕ, ◌<◌}
+use Rattle.model.specs.Layout.{peered_at}
 use Rattle.peers.proofs.none_registered.Given as goal
 
 abbrev pub invariant-loop-c : goal.invariant-loop-c

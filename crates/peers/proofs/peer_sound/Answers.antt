@@ -2,7 +2,6 @@
 -- Assumes nothing.
 use native.Mathlib.Omega.{arith}
 use mathlib.Core.Path.{◌≡◌, sym, ◌∙◌}
-use Prim.Native.Nat.{◌-◌}
 use Rattle.model.specs.Layout.{id_in, peered_at}
 use Rattle.basics.proofs.Loops.{refute}
 use Rattle.peers.proofs.Laws.{Registered, unmarked, registered, minor-left}

@@ -4,10 +4,10 @@ use borrow.Author.Tests.{ne_eqb, eq-eqb}
 use Rattle.basics.specs.Choice.{◌and◌}
 use Rattle.peers.proofs.peered_as.Goals as goal
 
-pub returns-then-mark_of-ne1 : goal.returns-then-mark_of-ne1
+pub returns-then-mark_of-eq1 : goal.returns-then-mark_of-eq1
 unfolding ◌and◌
-returns-then-mark_of-ne1 c = rw (← c.mark_of.ensures, ne_eqb _ _ c.if-mark_of-ne1.true)
+returns-then-mark_of-eq1 c = rw (← c.mark_of.ensures, ← c.handle_of.ensures, eq-eqb _ _ c.if-mark_of-eq1.true)
 
-pub returns : goal.returns
+pub returns-else-mark_of-eq1 : goal.returns-else-mark_of-eq1
 unfolding ◌and◌
-returns c = rw (← c.mark_of.ensures, ← c.handle_of.ensures, eq-eqb _ _ c.if-mark_of-ne1.false)
+returns-else-mark_of-eq1 c = rw (← c.mark_of.ensures, ne_eqb _ _ c.if-mark_of-eq1.false)

@@ -7,6 +7,6 @@ pub returns-then-res-eq-DR_MEM_RES_OK : goal.returns-then-res-eq-DR_MEM_RES_OK
 unfolding result_sound ◌or◌
 returns-then-res-eq-DR_MEM_RES_OK c = rw (eq-eqb _ _ c.if-res-eq-DR_MEM_RES_OK.true)
 
-pub returns : goal.returns
+pub returns-else-res-eq-DR_MEM_RES_OK : goal.returns-else-res-eq-DR_MEM_RES_OK
 unfolding result_sound ◌or◌
-returns c = rw (ne_eqb _ _ c.if-res-eq-DR_MEM_RES_OK.false)
+returns-else-res-eq-DR_MEM_RES_OK c = rw (ne_eqb _ _ c.if-res-eq-DR_MEM_RES_OK.false)

@@ -2,12 +2,9 @@
 -- Assumes nothing.
 use mathlib.Core.Path.{ap}
 use mathlib.Core.Bool.{not}
-use mathlib.Core.Bool.{true}
 use mathlib.Core.Path.{sym, ◌∙◌}
-use Prim.Native.Nat.{◌-◌}
 use native.Mathlib.Omega.{arith}
 use Rattle.model.specs.Layout.{removal_of}
-use Rattle.model.specs.State.{result_sound}
 use Rattle.basics.proofs.Loops.{no, yes, every-none, every_more, every-fails, every-all}
 use Rattle.removal_soundness.proofs.Rules.{results-words}
 use Rattle.removal_soundness.proofs.results_sound.Goals as goal

@@ -6,7 +6,7 @@ use Rattle.removal_state.proofs.add_pages.Goals as goal
 
 pub returns : goal.returns
 unfolding removal_of
-returns c = let p = c.requires in sym (collecting-words _ c.word_count.ensures.1 p.0 p.1 _)
+returns c = sym (collecting-words _ c.told-state c.requires.0 c.requires.1 _)
 
 pub overflow_add-state : goal.overflow_add-state
 unfolding removal_of

@@ -5,4 +5,4 @@ use Rattle.removal_state.proofs.mark.Goals as goal
 
 pub returns : goal.returns
 unfolding removal_of
-returns c = let p = c.requires in sym (marked-words _ c.word_count.ensures.1 p.0 p.1)
+returns c = sym (marked-words _ c.told-state c.requires.0 c.requires.1)

@@ -6,7 +6,7 @@ use Rattle.removal_state.proofs.settle.Goals as goal
 
 pub returns : goal.returns
 unfolding removal_of
-returns c = let p = c.requires in sym (settled-words _ c.word_count.ensures.1 p.0 p.1 _ p.2)
+returns c = sym (settled-words _ c.told-state c.requires.0 c.requires.1 _ c.requires.2)
 
 pub overflow_add-state : goal.overflow_add-state
 unfolding removal_of

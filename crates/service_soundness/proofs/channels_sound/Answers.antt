@@ -1,8 +1,5 @@
 -- `service_soundness::channels_sound` meets its contract: every channel passed is closed or ready.
 -- Assumes nothing.
-use mathlib.Core.Bool.{true}
-use Prim.Native.Nat.{◌-◌}
-use native.Mathlib.Omega.{arith}
 use borrow.Author.Tests.{lt-leb, le-leb}
 use Rattle.basics.proofs.Loops.{every-none, every_more, every-fails, every-all}
 use Rattle.service_soundness.proofs.channels_sound.Goals as goal

@@ -2,10 +2,9 @@
 -- Assumes nothing.
 use mathlib.Core.Bool.{true}
 use mathlib.Core.Path.{◌≡◌}
-use Prim.Native.Nat.{◌≤◌, ◌-◌}
 use lib.Dec.{leb}
 use Rattle.basics.specs.Choice.{every}
-use Rattle.model.specs.Layout.{ready_at, channel_count}
+use Rattle.model.specs.Layout.{ready_at}
 use Rattle.service_soundness.proofs.channels_sound.Given as goal
 
 abbrev pub invariant-loop-c : goal.invariant-loop-c

@@ -1,8 +1,5 @@
-use native.Mathlib.Omega.{arith}
-use mathlib.Core.Bool.{true, false}
+use mathlib.Core.Bool.{false}
 use mathlib.Core.Path.{refl, sym, ◌∙◌}
-use Prim.Native.Nat.{◌-◌}
-use Rattle.basics.specs.Choice.{◌or◌}
 use Rattle.basics.proofs.Loops.{every-none, every-all}
 use Rattle.basics.proofs.Choice.{clash}
 use Rattle.service_soundness.proofs.Rules.{apart-idle, apart-live, apart_more}

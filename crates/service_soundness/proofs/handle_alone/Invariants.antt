@@ -1,6 +1,5 @@
 use mathlib.Core.Bool.{true, not}
 use mathlib.Core.Path.{◌≡◌}
-use Prim.Native.Nat.{◌≤◌, ◌-◌}
 use lib.Dec.{eqb}
 use Rattle.basics.specs.Choice.{◌or◌, every}
 use Rattle.model.specs.Layout.{stage_idle, stage_at, handle_at}

@@ -1,9 +1,6 @@
 use mathlib.Core.Path.{ap}
-use native.Mathlib.Omega.{arith}
-use mathlib.Core.Bool.{true, not}
+use mathlib.Core.Bool.{not}
 use mathlib.Core.Path.{sym, ◌∙◌}
-use Prim.Native.Nat.{◌-◌}
-use Rattle.basics.specs.Choice.{◌or◌}
 use Rattle.basics.proofs.Loops.{no, yes, every-none, every_more, every-fails, every-all}
 use Rattle.service_soundness.proofs.Rules.{apart-idle, apart-live}
 use Rattle.service_soundness.proofs.handle_apart.Goals as goal

@@ -4,8 +4,6 @@ use mathlib.Core.Path.{ap}
 use mathlib.Core.Bool.{not}
 use mathlib.Core.Bool.{false}
 use mathlib.Core.Path.{refl, sym}
-use Prim.Native.Nat.{◌-◌}
-use native.Mathlib.Omega.{arith}
 use Rattle.basics.proofs.Loops.{every-none, every_more, every-all}
 use Rattle.basics.proofs.Choice.{clash}
 use borrow.Author.Tests.{not-false}

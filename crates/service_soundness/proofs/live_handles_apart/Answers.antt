@@ -2,10 +2,6 @@
 -- Assumes nothing.
 use mathlib.Core.Path.{ap}
 use mathlib.Core.Bool.{not}
-use mathlib.Core.Bool.{true}
-use Prim.Native.Nat.{◌-◌}
-use native.Mathlib.Omega.{arith}
-use Rattle.model.specs.State.{handle_apart}
 use Rattle.basics.proofs.Loops.{no, yes, every-none, every_more, every-fails, every-all}
 use Rattle.service_soundness.proofs.live_handles_apart.Goals as goal
 

@@ -2,10 +2,8 @@
 -- Assumes nothing.
 use mathlib.Core.Bool.{true}
 use mathlib.Core.Path.{◌≡◌}
-use Prim.Native.Nat.{◌≤◌, ◌-◌}
 use Rattle.basics.specs.Choice.{every}
 use Rattle.model.specs.State.{handle_apart}
-use Rattle.model.specs.Layout.{place_count}
 use Rattle.service_soundness.proofs.live_handles_apart.Given as goal
 
 abbrev pub invariant-loop-k : goal.invariant-loop-k
