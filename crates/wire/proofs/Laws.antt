@@ -1,17 +1,18 @@
 -- Laws of big-endian fields, each over the width, and of stores one after the other.
 -- Assumes nothing.
 use mathlib.Core.Path.{◌≡◌, refl, sym, ap, ap₂, ◌∙◌, subst}
-use mathlib.Core.List.{List, [], ◌∷◌, ◌++◌, append-nil}
+use mathlib.Core.List.{List, [], ◌∷◌, ◌++◌, append_assoc, append-nil}
 use Prim.Native.Nat.{ℕ, zero, suc, ◌+◌, ◌*◌, ◌/◌, ◌%◌, ◌^◌, ◌<◌, ◌≤◌}
 use native.Mathlib.Nat.{add-zero, zero-add, add-suc, suc-add, add_assoc, add_comm, add-mul, mul_assoc}
 use native.Mathlib.Nat.{pow-suc, pow-succ', zero-lt-suc, one-le-pow, mod-lt, mod-mod, mod-one, mod-eq_of_lt}
 use native.Mathlib.Nat.{div-add-mod', div-div-eq-div-mul, mul-add-div_right, mul-add-mod_self_right}
 use native.Mathlib.Numerals.{one-add, add-one}
 use native.Mathlib.Omega.{arith}
+use borrow.Rule.Slice.PartMut.{put_mid}
 use lib.Arith.{mod-mul, digits_lt}
 use lib.ListN.{length, get_or, set, take, drop, drop_of_length-le}
 use lib.Pow.{pow-add}
-use lib.Seq.{sets, sets-eq, get_or-append-add, length-take-le, take-suc}
+use lib.Seq.{sets, sets-eq, drop-drop, get_or-append-add, length-take-le, take-suc}
 use Rattle.wire.specs.BigEndian.{byte_at, number_at, bytes_of, written}
 
 power_pos : (n : ℕ) → 0 < 256 ^ n
@@ -112,6 +113,15 @@ sets-append l [] b i = ap (λ (k : ℕ). sets l k b) (add-zero i)
 sets-append l (x ∷ a) b i =
     ap (λ (k : ℕ). sets (sets (set l i x) (suc i) a) k b) (add-suc i (length a) ∙ sym (suc-add i (length a)))
     ∙ sets-append (set l i x) a b (suc i)
+
+-- k elements from `at` on, written as a part of the list, are a run of stores
+pub part-stored : {A : Type 0} (l v : List A) (at k : ℕ) → at + k ≤ length l → length v ≡ k → put_mid at k l v ≡ sets l at v
+part-stored {A} l v at k h e =
+    sym
+    (sets-eq v l at (omega (arith, e))
+    ∙ append_assoc (take at l) v (drop (at + length v) l)
+    ∙ ap (λ (m : ℕ). take at l ++ (v ++ drop (at + m) l)) e
+    ∙ ap (λ (t : List A). take at l ++ (v ++ t)) (sym (drop-drop k at l)))
 
 -- one store more of a run
 pub sets_more : (l v : List ℕ) (at i : ℕ) {l₁ : List ℕ} → i < length v → l₁ ≡ sets l at (take i v) → set l₁ (at + i) (get_or v i 0) ≡ sets l at (take (i + 1) v)

@@ -65,11 +65,7 @@ fn put_eight(out: &mut [u8], at: usize, bytes: [u8; 8])
     requires { at + 8 ≤ length out.old }
     ensures { out.new ≡ sets out.old at bytes }
 {
-    let mut i: usize = 0;
-    while i < 8 {
-        out[at + i] = bytes[i];
-        i += 1;
-    }
+    out[at..at + 8].copy_from_slice(&bytes);
 }
 
 // Writes the eight bytes of `v` from `at` on, and no other byte. They are made by halves in an array, which becomes a register.
