@@ -3,7 +3,7 @@
 use mathlib.Core.Path.{◌≡◌, refl, sym, ◌∙◌}
 use mathlib.Core.Bool.{Bool, true, false}
 use mathlib.Core.List.{List}
-use Prim.Native.Nat.{ℕ, zero, suc, ◌+◌, ◌-◌, ◌≤◌, ◌<◌}
+use Prim.Native.Nat.{ℕ, ◌+◌, ◌-◌, ◌≤◌, ◌<◌}
 use native.Mathlib.Omega.{arith}
 use lib.ListN.{length, get_or}
 use lib.Dec.{eqb}
@@ -66,33 +66,6 @@ module _ (m : List ℕ) where
   pub id-last : Id m → id_fits m ≡ no_zero m (payload_length m - 13)
   unfolding id_fits ◌and◌
   id-last r = rw (le-leb _ _ r.low, le-leb _ _ r.high, r.end)
-
-  -- UNREG, UNREG_ACK and UNREG_NACK have one payload
-  unreg-type : (k : ℕ) → k < 3 → type_of m ≡ DS-UNREG + k → payload_fits m ≡ eqb (payload_length m) 8
-  unfolding payload_fits pick
-  unreg-type zero h e = rw e
-  unreg-type (suc zero) h e = rw e
-  unreg-type (suc (suc zero)) h e = rw e
-  unreg-type (suc (suc (suc k))) h e = absurd (omega arith)
-
-  pub unreg-fits : DS-UNREG ≤ type_of m → type_of m ≤ DS-UNREG-NACK → payload_fits m ≡ eqb (payload_length m) 8
-  unreg-fits low high = unreg-type (type_of m - DS-UNREG) (omega arith) (omega arith)
-
-  -- no payload fits another type
-  pub no-type : (type_of m ≡ DS-INIT-REQ → ⊥) → (DS-REG-REQ ≤ type_of m → type_of m ≤ DS-NACK → ⊥) → false ≡ payload_fits m
-  unfolding payload_fits pick
-  no-type init other =
-      rw (
-        ne_eqb (type_of m) DS-INIT-REQ init,
-        ne_eqb (type_of m) DS-REG-REQ (λ e. other (omega arith) (omega arith)),
-        ne_eqb (type_of m) DS-REG-ACK (λ e. other (omega arith) (omega arith)),
-        ne_eqb (type_of m) DS-REG-NACK (λ e. other (omega arith) (omega arith)),
-        ne_eqb (type_of m) DS-UNREG (λ e. other (omega arith) (omega arith)),
-        ne_eqb (type_of m) DS-UNREG-ACK (λ e. other (omega arith) (omega arith)),
-        ne_eqb (type_of m) DS-UNREG-NACK (λ e. other (omega arith) (omega arith)),
-        ne_eqb (type_of m) DS-DATA (λ e. other (omega arith) (omega arith)),
-        ne_eqb (type_of m) DS-NACK (λ e. other (omega arith) (omega arith)),
-      )
 
   -- what a well-formed message of a type has room for: INIT_REQ a major, REG_ACK a handle and a minor, all but INIT_REQ a handle
   module _ (fits : payload_fits m ≡ true) where

@@ -11,6 +11,7 @@ use model::{
     DATA_HEADER_BYTES, DS_DATA, DS_HEADER_BYTES, DS_INIT_REQ, DS_NACK, DS_REG_ACK, DS_REG_NACK,
     DS_REG_REQ, DS_UNREG, DS_UNREG_ACK, DS_UNREG_NACK, MOST_PAYLOAD, Message,
 };
+
 // "it has 8 + payload_len bytes, payload_len is at most 4,096"
 fn whole_message(m: &[u8]) -> bool
     ensures { result ≡ whole_message m.now }
@@ -19,10 +20,7 @@ fn whole_message(m: &[u8]) -> bool
         return false;
     }
     let payload_len = wire::get32(m, 4) as usize;
-    if payload_len > MOST_PAYLOAD {
-        return false;
-    }
-    m.len() == DS_HEADER_BYTES + payload_len
+    payload_len <= MOST_PAYLOAD && m.len() == DS_HEADER_BYTES + payload_len
 }
 
 // Whether none of `count` bytes from byte 20 on is zero: the id's, but for its last.
@@ -30,14 +28,7 @@ fn no_zero(m: &[u8], count: usize) -> bool
     requires { 20 + count ≤ length m.now }
     ensures { result ≡ no_zero m.now count }
 {
-    let mut i: usize = 0;
-    while i < count {
-        if m[20 + i] == 0 {
-            return false;
-        }
-        i += 1;
-    }
-    true
+    !m[20..20 + count].contains(&0)
 }
 
 // REG_REQ: "13 to 1,036, its last byte the only zero of the id"
@@ -45,19 +36,14 @@ fn id_fits(m: &[u8], payload_len: usize) -> bool
     requires { (whole_message m.now ≡ true) × (payload_len ≡ payload_length m.now) }
     ensures { result ≡ id_fits m.now }
 {
-    if payload_len < 13 {
-        return false;
+    match payload_len {
+        13..=1036 => m[payload_len + 7] == 0 && no_zero(m, payload_len - 13),
+        _ => false,
     }
-    if payload_len > 1036 {
-        return false;
-    }
-    if m[payload_len + 7] != 0 {
-        return false;
-    }
-    no_zero(m, payload_len - 13)
 }
 
 // "the payload fits its type"
+#[tactic(auto, unfolding(model::specs::Messages::payload_fits, basics::specs::Choice::pick))]
 fn payload_fits(m: &[u8]) -> bool
     requires { whole_message m.now ≡ true }
     ensures { result ≡ payload_fits m.now }
@@ -85,6 +71,7 @@ fn handle_of(m: &[u8]) -> u64
 }
 
 // Each message by its type, with its values.
+#[tactic(auto, unfolding(model::specs::Messages::decoded_by_type, basics::specs::Choice::pick))]
 fn by_type(m: &[u8]) -> Message
     requires { well_formed m.now ≡ true }
     ensures { result ≡ decoded_by_type m.now }
@@ -116,13 +103,11 @@ fn by_type(m: &[u8]) -> Message
 pub fn decode(m: &[u8]) -> Message
     ensures { result ≡ decoded m.now }
 {
-    if !whole_message(m) {
-        return Message::Bad;
+    if whole_message(m) && payload_fits(m) {
+        by_type(m)
+    } else {
+        Message::Bad
     }
-    if !payload_fits(m) {
-        return Message::Bad;
-    }
-    by_type(m)
 }
 
 // What a DATA message carries: "the part of its own message from byte 16 on"

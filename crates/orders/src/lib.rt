@@ -3,7 +3,7 @@
 
 ghost use Rattle.std.specs.Prelude.{◌≡◌, List, ℕ, ◌+◌, ◌≤◌, ◌<◌, length};
 ghost use Rattle.std.proofs.lemmas.List.Edits.{sets};
-ghost use Rattle.model.specs.Layout.{output_bytes, service_count, shutdown_service, is_set, word_of, permission_at, order_of, delay_of, with_permission, with_order};
+ghost use Rattle.model.specs.Layout.{output_bytes, service_count, shutdown_service, is_set, permission_at, order_of, delay_of, with_permission, with_order};
 ghost use Rattle.model.specs.Orders.{DOMAIN-SHUTDOWN-FAILURE, order_number, order_bytes, order_reply, not_ordered, ordering, ordering_for, answered_order, permitting, taking};
 ghost use Rattle.model.specs.Handler.{Handles, HandlesSilently};
 ghost use Rattle.services.specs.Output.{Wrote};
@@ -35,6 +35,7 @@ pub fn delay_of(state: &State) -> u64
     state[DELAY_WORD]
 }
 
+#[tactic(auto, unfolding(model::specs::Layout::with_order))]
 fn set_order(state: &mut State, order: u64, delay: u64)
     ensures { state.new ≡ with_order state.old order delay }
 {
@@ -42,6 +43,7 @@ fn set_order(state: &mut State, order: u64, delay: u64)
     state[DELAY_WORD] = delay;
 }
 
+#[tactic(auto, unfolding(model::specs::Layout::with_permission))]
 fn set_permission(state: &mut State, service: usize, permitted: u64)
     requires { (shutdown_service ≤ service) × (service < service_count) }
     ensures { state.new ≡ with_permission state.old service permitted }
@@ -49,22 +51,13 @@ fn set_permission(state: &mut State, service: usize, permitted: u64)
     state[FIRST_PERMISSION_WORD + (service - SHUTDOWN_SERVICE)] = permitted;
 }
 
-// A test as a word.
-fn word_of(set: bool) -> u64
-    ensures { result ≡ word_of set }
-{
-    if set {
-        return 1;
-    }
-    0
-}
-
 // "The host sets, per service, whether it is permitted"
+#[tactic(auto, unfolding(model::specs::Orders::permitting))]
 pub fn permit(state: &mut State, service: usize, permitted: bool) -> Handled
     requires { (shutdown_service ≤ service) × (service < service_count) }
     ensures { HandlesSilently (permitting state.old service permitted) result.length result.event state.new }
 {
-    let word = word_of(permitted);
+    let word = u64::from(permitted);
     set_permission(state, service, word);
     Handled {
         length: 0,
@@ -73,6 +66,7 @@ pub fn permit(state: &mut State, service: usize, permitted: bool) -> Handled
 }
 
 // "the host takes the order"
+#[tactic(auto, unfolding(model::specs::Orders::taking))]
 pub fn take(state: &mut State) -> Handled
     ensures { HandlesSilently (taking state.old) result.length result.event state.new }
 {
@@ -88,152 +82,99 @@ fn put_bytes(out: &mut [u8], at: usize, bytes: &[u8])
     requires { at + length bytes.now ≤ length out.old }
     ensures { out.new ≡ sets out.old at bytes.now }
 {
-    let mut i: usize = 0;
-    while i < bytes.len() {
-        out[at + i] = bytes[i];
-        i += 1;
-    }
+    out[at..at + bytes.len()].copy_from_slice(bytes);
+}
+
+// What a request is asked under: its channel, handle and service, and its number.
+#[derive(Clone, Copy)]
+struct Asked {
+    channel: u64,
+    handle: u64,
+    service: usize,
+    request: u64,
 }
 
 // The response: req_num, result, and the reason if there is one.
-fn put_reply(out: &mut [u8], handle: u64, request: u64, res: u32, reason: &[u8]) -> usize
+fn put_reply(out: &mut [u8], asked: Asked, res: u32, reason: &[u8]) -> usize
     requires { (length reason.now ≤ 8) × (output_bytes ≤ length out.old) }
-    ensures { Wrote (order_reply handle request res reason.now) out.old result out.new }
+    ensures { Wrote (order_reply asked.handle asked.request res reason.now) out.old result out.new }
 {
     wire::put32(out, 0, DS_DATA);
     wire::put32(out, 4, (20 + reason.len()) as u32);
-    wire::put64(out, 8, handle);
-    wire::put64(out, 16, request);
+    wire::put64(out, 8, asked.handle);
+    wire::put64(out, 16, asked.request);
     wire::put32(out, 24, res);
     put_bytes(out, 28, reason);
     28 + reason.len()
 }
 
 // A request that leaves no order.
-fn refuse(
-    channel: u64,
-    handle: u64,
-    service: usize,
-    request: u64,
-    res: u32,
-    reason: &[u8],
-    out: &mut [u8],
-) -> Handled
+#[tactic(auto, unfolding(model::specs::Orders::not_ordered))]
+fn refuse(asked: Asked, res: u32, reason: &[u8], out: &mut [u8]) -> Handled
     requires { (length reason.now ≤ 8) × (output_bytes ≤ length out.old) }
-    ensures { (s : List ℕ) → Handles (not_ordered s channel handle service request res reason.now) out.old result.length result.event s out.new }
+    ensures { (s : List ℕ) → Handles (not_ordered s asked.channel asked.handle asked.service asked.request res reason.now) out.old result.length result.event s out.new }
 {
-    let length = put_reply(out, handle, request, res, reason);
+    let length = put_reply(out, asked, res, reason);
     Handled {
-        length: length,
-        event: events::ordered(channel, service as u64, res as u64, 0),
+        length,
+        event: events::ordered(asked.channel, asked.service as u64, u64::from(res), 0),
     }
 }
 
 // A request that fails, with its reason.
-fn fail(
-    channel: u64,
-    handle: u64,
-    service: usize,
-    request: u64,
-    reason: &[u8],
-    out: &mut [u8],
-) -> Handled
+fn fail(asked: Asked, reason: &[u8], out: &mut [u8]) -> Handled
     requires { (length reason.now ≤ 8) × (output_bytes ≤ length out.old) }
-    ensures { (s : List ℕ) → Handles (not_ordered s channel handle service request DOMAIN-SHUTDOWN-FAILURE reason.now) out.old result.length result.event s out.new }
+    ensures { (s : List ℕ) → Handles (not_ordered s asked.channel asked.handle asked.service asked.request DOMAIN-SHUTDOWN-FAILURE reason.now) out.old result.length result.event s out.new }
 {
-    refuse(
-        channel,
-        handle,
-        service,
-        request,
-        DOMAIN_SHUTDOWN_FAILURE,
-        reason,
-        out,
-    )
+    refuse(asked, DOMAIN_SHUTDOWN_FAILURE, reason, out)
 }
 
 // "Permitted requests succeed, with no reason bytes, and leave an order for the host"
-fn leave(
-    state: &mut State,
-    channel: u64,
-    handle: u64,
-    service: usize,
-    request: u64,
-    order: u64,
-    delay: u64,
-    out: &mut [u8],
-) -> Handled
+#[tactic(auto, unfolding(model::specs::Orders::ordering))]
+fn leave(state: &mut State, asked: Asked, order: u64, delay: u64, out: &mut [u8]) -> Handled
     requires { output_bytes ≤ length out.old }
-    ensures { Handles (ordering state.old channel handle service request order delay) out.old result.length result.event state.new out.new }
+    ensures { Handles (ordering state.old asked.channel asked.handle asked.service asked.request order delay) out.old result.length result.event state.new out.new }
 {
     set_order(state, order, delay);
-    let length = put_reply(out, handle, request, DOMAIN_SHUTDOWN_SUCCESS, b"");
+    let length = put_reply(out, asked, DOMAIN_SHUTDOWN_SUCCESS, b"");
+    let code = u64::from(DOMAIN_SHUTDOWN_SUCCESS);
     Handled {
-        length: length,
-        event: events::ordered(
-            channel,
-            service as u64,
-            DOMAIN_SHUTDOWN_SUCCESS as u64,
-            delay,
-        ),
+        length,
+        event: events::ordered(asked.channel, asked.service as u64, code, delay),
     }
 }
 
 // The request's number: "number 0 when under 8 bytes came".
+#[tactic(auto, unfolding(model::specs::Orders::order_number, basics::specs::Choice::pick))]
 fn number_of(b: &[u8]) -> u64
     ensures { result ≡ order_number b.now }
 {
-    if b.len() < 8 {
-        return 0;
-    }
-    wire::get64(b, 0)
+    if b.len() < 8 { 0 } else { wire::get64(b, 0) }
 }
 
+#[tactic(auto, unfolding(model::specs::Orders::order_bytes, basics::specs::Choice::pick))]
 fn bytes_of(service: usize) -> usize
     ensures { result ≡ order_bytes service }
 {
     if service == SHUTDOWN_SERVICE {
-        return SHUTDOWN_BYTES;
+        SHUTDOWN_BYTES
+    } else {
+        PANIC_BYTES
     }
-    PANIC_BYTES
 }
 
 // The order of a request of right length.
-fn leave_for(
-    state: &mut State,
-    channel: u64,
-    handle: u64,
-    service: usize,
-    b: &[u8],
-    out: &mut [u8],
-) -> Handled
-    requires { (length b.now ≡ order_bytes service) × (output_bytes ≤ length out.old) }
-    ensures { Handles (ordering_for state.old channel handle service b.now) out.old result.length result.event state.new out.new }
+#[tactic(auto, unfolding(model::specs::Orders::ordering_for, basics::specs::Choice::pick))]
+fn leave_for(state: &mut State, asked: Asked, b: &[u8], out: &mut [u8]) -> Handled
+    requires { (length b.now ≡ order_bytes asked.service) × (asked.request ≡ order_number b.now) × (output_bytes ≤ length out.old) }
+    ensures { Handles (ordering_for state.old asked.channel asked.handle asked.service b.now) out.old result.length result.event state.new out.new }
 {
-    let request = number_of(b);
-    if service == SHUTDOWN_SERVICE {
+    if asked.service == SHUTDOWN_SERVICE {
         let delay = wire::get32(b, 8);
-        return leave(
-            state,
-            channel,
-            handle,
-            service,
-            request,
-            ORDER_SHUTDOWN,
-            delay,
-            out,
-        );
+        leave(state, asked, ORDER_SHUTDOWN, delay, out)
+    } else {
+        leave(state, asked, ORDER_PANIC, 0, out)
     }
-    leave(
-        state,
-        channel,
-        handle,
-        service,
-        request,
-        ORDER_PANIC,
-        0,
-        out,
-    )
 }
 
 // "A wrong length, tested first, ..; then a denied one fails with `denied`"; "a second request before that fails with the reason `pending`"
@@ -249,22 +190,20 @@ pub fn answer(
     ensures { Handles (answered_order state.old channel handle service b.now) out.old result.length result.event state.new out.new }
 {
     let request = number_of(b);
+    let asked = Asked {
+        channel,
+        handle,
+        service,
+        request,
+    };
     if b.len() != bytes_of(service) {
-        return refuse(
-            channel,
-            handle,
-            service,
-            request,
-            DOMAIN_SHUTDOWN_INVALID_MSG,
-            b"",
-            out,
-        );
+        return refuse(asked, DOMAIN_SHUTDOWN_INVALID_MSG, b"", out);
     }
     if !is_permitted(state, service) {
-        return fail(channel, handle, service, request, b"denied\0", out);
+        return fail(asked, b"denied\0", out);
     }
     if order_of(state) != ORDER_NONE {
-        return fail(channel, handle, service, request, b"pending\0", out);
+        return fail(asked, b"pending\0", out);
     }
-    leave_for(state, channel, handle, service, b, out)
+    leave_for(state, asked, b, out)
 }

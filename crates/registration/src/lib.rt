@@ -17,14 +17,15 @@ use model::{
 // REG_REQ.
 
 // One that registers nothing.
+#[tactic(auto, unfolding(model::specs::Messages::noting))]
 fn refuse(channel: usize, handle: u64, res: u64, major: u16, out: &mut [u8]) -> Handled
     requires { output_bytes ≤ length out.old }
     ensures { (s : List ℕ) → Handles (noting s channel DS-REG-REQ (reg_nack handle res major)) out.old result.length result.event s out.new }
 {
     let length = services::put_reg_nack(out, handle, res, major);
     Handled {
-        length: length,
-        event: events::noted(channel as u64, DS_REG_REQ as u64),
+        length,
+        event: events::noted(channel as u64, u64::from(DS_REG_REQ)),
     }
 }
 
@@ -41,22 +42,20 @@ fn accept(
     ensures { Handles (effect (peer_registered_event channel place minor handle) (with_peer state.old channel place handle minor) (reg_ack handle minor)) out.old result.length result.event state.new out.new }
 {
     let length = services::put_reg_ack(out, handle, minor);
-    peers::set_peer(state, channel, place, handle, minor as u64);
+    peers::set_peer(state, channel, place, handle, u64::from(minor));
     Handled {
-        length: length,
-        event: events::peer_registered(channel as u64, place as u64, minor as u64, handle),
+        length,
+        event: events::peer_registered(channel as u64, place as u64, u64::from(minor), handle),
     }
 }
 
 // The major that a refusal tells: "a higher major is told ours; a lower one gets 0".
+#[tactic(auto, unfolding(basics::specs::Choice::pick))]
 fn told_major(own: u64, asked: u64) -> u16
     requires { asked < 65536 }
     ensures { result ≡ pick (ltb own asked) own 0 }
 {
-    if own < asked {
-        return own as u16;
-    }
-    0
+    if own < asked { own as u16 } else { 0 }
 }
 
 // "A handle with the top bit, a handle .. of a peer registration on its channel, or a ninth one": what makes it a duplicate, whatever its id.
@@ -64,13 +63,9 @@ fn is_refused(state: &State, channel: usize, handle: u64) -> bool
     requires { channel < channel_count }
     ensures { result ≡ (leb top_bit handle or is_found (peer_for state.now channel handle) or leb most_peers (peers_below state.now channel most_ids)) }
 {
-    if TOP_BIT <= handle {
-        return true;
-    }
-    if peers::has_handle(state, channel, handle) {
-        return true;
-    }
-    MOST_PEERS <= peers::count(state, channel)
+    TOP_BIT <= handle
+        || peers::has_handle(state, channel, handle)
+        || MOST_PEERS <= peers::count(state, channel)
 }
 
 // svc_id: the payload from byte 12 on, the message from byte 20 on.
@@ -106,7 +101,7 @@ fn register_id(
     }
     let most = id_list::highest_minor_of(state, place);
     let offered = wire::get16(message, 18);
-    let minor = basics::lower(most, offered) as u16;
+    let minor = most.min(offered) as u16;
     accept(state, channel, place, handle, minor, out)
 }
 
@@ -136,8 +131,7 @@ pub fn register_peer(state: &mut State, channel: usize, message: &[u8], out: &mu
     if is_refused(state, channel, handle) {
         return refuse(channel, handle, DS_REG_DUP, 0, out);
     }
-    let found = id_list::listed_id(state, id_of(message));
-    match found {
+    match id_list::listed_id(state, id_of(message)) {
         Some(place) => register_listed(state, channel, place, message, out),
         None => refuse(channel, handle, DS_REG_VER_NACK, 0, out),
     }
@@ -146,6 +140,7 @@ pub fn register_peer(state: &mut State, channel: usize, message: &[u8], out: &mu
 // UNREG.
 
 // A registration of the peer ended by its UNREG.
+#[tactic(auto, unfolding(model::specs::Messages::peer_unregistered))]
 fn end(state: &mut State, channel: usize, place: usize, handle: u64, out: &mut [u8]) -> Handled
     requires { (channel < channel_count) × (place < most_ids) × (output_bytes ≤ length out.old) }
     ensures { Handles (peer_unregistered state.old channel handle (Some place)) out.old result.length result.event state.new out.new }
@@ -153,20 +148,21 @@ fn end(state: &mut State, channel: usize, place: usize, handle: u64, out: &mut [
     let length = services::put_unreg_ack(out, handle);
     peers::end_peer(state, channel, place);
     Handled {
-        length: length,
+        length,
         event: events::peer_ended(channel as u64, handle),
     }
 }
 
 // An UNREG of a handle that is not live.
+#[tactic(auto, unfolding(model::specs::Messages::peer_unregistered, model::specs::Messages::noting))]
 fn refuse_end(state: &State, channel: usize, handle: u64, out: &mut [u8]) -> Handled
     requires { output_bytes ≤ length out.old }
     ensures { Handles (peer_unregistered state.now channel handle None) out.old result.length result.event state.now out.new }
 {
     let length = services::put_unreg_nack(out, handle);
     Handled {
-        length: length,
-        event: events::noted(channel as u64, DS_UNREG as u64),
+        length,
+        event: events::noted(channel as u64, u64::from(DS_UNREG)),
     }
 }
 
@@ -175,8 +171,7 @@ pub fn end_peer(state: &mut State, channel: usize, handle: u64, out: &mut [u8]) 
     requires { (channel < channel_count) × (output_bytes ≤ length out.old) }
     ensures { Handles (peer_unregistered state.old channel handle (peer_for state.old channel handle)) out.old result.length result.event state.new out.new }
 {
-    let found = peers::find_peer(state, channel, handle);
-    match found {
+    match peers::find_peer(state, channel, handle) {
         Some(place) => end(state, channel, place, handle, out),
         None => refuse_end(state, channel, handle, out),
     }

@@ -3,9 +3,9 @@
 use mathlib.Core.Path.{◌≡◌, sym, ap, ◌∙◌}
 use mathlib.Core.Bool.{true}
 use mathlib.Core.List.{List, [], ◌∷◌}
-use Prim.Native.Nat.{ℕ, ◌<◌, ◌≤◌}
+use Prim.Native.Nat.{ℕ, ◌<◌}
 use native.Mathlib.Omega.{arith}
-use lib.ListN.{length, get_or, length-take, get_or-map}
+use lib.ListN.{get_or, get_or-map}
 use borrow.Author.Tests.{leb-true, eqb-true}
 use Rattle.model.specs.Messages.{Service, service_of, no_service}
 use Rattle.basics.proofs.Choice.{every-at, each_of}
@@ -15,7 +15,7 @@ use Rattle.model.specs.Layout.{service_count}
 
 row_fits_lem : {row : Row} → row_fits row ≡ true → RowFits row
 unfolding row_fits
-row_fits_lem test = let h = each_of (_ ∷ _ ∷ _ ∷ []) test in search (arith, leb-true, eqb-true)
+row_fits_lem test = let h = each_of (_ ∷ _ ∷ []) test in search (arith, leb-true, eqb-true)
 
 pub rule-at : {rows : List Row} → TableRight rows → (v : ℕ) → v < service_count → RowOf (get_or rows v no_row) (service_of v)
 rule-at {rows} rule v h =
@@ -24,7 +24,3 @@ rule-at {rows} rule v h =
           sym (get_or-map service_in rows v no_row) ∙ ap (λ (l : List Service). get_or l v no_service) rule.same;
       fits = row_fits_lem (every-at (λ k. row_fits (get_or rows k no_row)) service_count v rule.fits h);
     }
-
--- a row has all of its id
-pub id-there : {row : Row} → RowFits row → row.length ≤ length row.id
-id-there {row} r = omega (arith, length-take row.length row.id, r.size)

@@ -15,37 +15,32 @@ use model::{
     SHUTDOWN_SERVICE,
 };
 
-// A row of the table of services: the id with its zero and more zeros after it, its length with the one zero, and the version.
+// A row of the table of services: the id with its zero, and the version.
 #[derive(Clone, Copy)]
 struct Row {
-    id: [u8; 16],
-    length: usize,
+    id: &'static [u8],
     major: u16,
     minor: u16,
 }
 
 const SERVICES: [Row; SERVICE_COUNT] = [
     Row {
-        id: *b"dr-mem\0\0\0\0\0\0\0\0\0\0",
-        length: 7,
+        id: b"dr-mem\0",
         major: 1,
         minor: 0,
     },
     Row {
-        id: *b"dr-vio\0\0\0\0\0\0\0\0\0\0",
-        length: 7,
+        id: b"dr-vio\0",
         major: 1,
         minor: 0,
     },
     Row {
-        id: *b"domain-shutdown\0",
-        length: 16,
+        id: b"domain-shutdown\0",
         major: 1,
         minor: 0,
     },
     Row {
-        id: *b"domain-panic\0\0\0\0",
-        length: 13,
+        id: b"domain-panic\0",
         major: 1,
         minor: 0,
     },
@@ -72,30 +67,24 @@ pub fn minor(service: usize) -> u64
     requires { service < service_count }
     ensures { result ≡ (service_of service).minor }
 {
-    let row = row_of(service);
-    row.minor as u64
+    u64::from(row_of(service).minor)
 }
 
 // Each of the four services is answered inside.
+#[tactic(auto, unfolding(model::specs::Messages::route, basics::specs::Choice::pick))]
 pub fn route(service: usize) -> Route
     ensures { result ≡ route service }
 {
-    if service == MEMORY_SERVICE {
-        return Route::Memory;
+    match service {
+        MEMORY_SERVICE => Route::Memory,
+        DEVICE_SERVICE => Route::Devices,
+        SHUTDOWN_SERVICE | PANIC_SERVICE => Route::Orders,
+        _ => Route::Host,
     }
-    if service == DEVICE_SERVICE {
-        return Route::Devices;
-    }
-    if service == SHUTDOWN_SERVICE {
-        return Route::Orders;
-    }
-    if service == PANIC_SERVICE {
-        return Route::Orders;
-    }
-    Route::Host
 }
 
 // "Header: type (4), payload_len (4)."
+#[tactic(auto, unfolding(wire::specs::BigEndian::bytes_of))]
 fn put_header(out: &mut [u8], message_type: u32, payload_len: u32)
     requires { 8 ≤ length out.old }
     ensures { out.new ≡ sets out.old 0 (bytes_of 4 message_type ++ bytes_of 4 payload_len) }
@@ -115,6 +104,7 @@ fn put_version(out: &mut [u8], message_type: u32, version: u16) -> usize
 }
 
 // INIT_ACK: minor_vers.
+#[tactic(auto, unfolding(model::specs::Messages::init_ack))]
 pub fn put_init_ack(out: &mut [u8], minor: u16) -> usize
     requires { output_bytes ≤ length out.old }
     ensures { Wrote (init_ack minor) out.old result out.new }
@@ -123,6 +113,7 @@ pub fn put_init_ack(out: &mut [u8], minor: u16) -> usize
 }
 
 // INIT_NACK: major_vers.
+#[tactic(auto, unfolding(model::specs::Messages::init_nack))]
 pub fn put_init_nack(out: &mut [u8], major: u16) -> usize
     requires { output_bytes ≤ length out.old }
     ensures { Wrote (init_nack major) out.old result out.new }
@@ -132,19 +123,14 @@ pub fn put_init_nack(out: &mut [u8], major: u16) -> usize
 
 // Writes a row's id with its zero from `at` on, and no other byte.
 fn put_id(out: &mut [u8], at: usize, row: Row)
-    requires { RowFits row × (at + row.length ≤ length out.old) }
+    requires { RowFits row × (at + length row.id.now ≤ length out.old) }
     ensures { out.new ≡ sets out.old at (service_in row).id }
 {
-    let id = row.id;
-    let count = row.length;
-    let mut i: usize = 0;
-    while i < count {
-        out[at + i] = id[i];
-        i += 1;
-    }
+    out[at..at + row.id.len()].copy_from_slice(row.id);
 }
 
 // major_vers, minor_vers and svc_id, as they stand in REG_REQ.
+#[tactic(auto, unfolding(wire::specs::BigEndian::bytes_of))]
 fn put_row(out: &mut [u8], row: Row)
     requires { RowFits row × (36 ≤ length out.old) }
     ensures { out.new ≡ sets out.old 16 (bytes_of 2 row.major ++ bytes_of 2 row.minor ++ (service_in row).id) }
@@ -160,7 +146,7 @@ pub fn put_reg_req(out: &mut [u8], handle: u64, service: usize) -> usize
     ensures { Wrote (reg_req handle (service_of service)) out.old result out.new }
 {
     let row = row_of(service);
-    let count = row.length;
+    let count = row.id.len();
     put_header(out, DS_REG_REQ, (12 + count) as u32);
     wire::put64(out, 8, handle);
     put_row(out, row);
@@ -168,6 +154,7 @@ pub fn put_reg_req(out: &mut [u8], handle: u64, service: usize) -> usize
 }
 
 // Header, svc_handle and result, as they stand in REG_NACK and NACK.
+#[tactic(auto, unfolding(wire::specs::BigEndian::bytes_of))]
 fn put_result(out: &mut [u8], message_type: u32, payload_len: u32, handle: u64, res: u64)
     requires { 24 ≤ length out.old }
     ensures { out.new ≡ sets out.old 0 (bytes_of 4 message_type ++ bytes_of 4 payload_len ++ bytes_of 8 handle ++ bytes_of 8 res) }
@@ -218,6 +205,7 @@ fn put_handle(out: &mut [u8], message_type: u32, handle: u64) -> usize
 }
 
 // UNREG, which withdraw sends.
+#[tactic(auto, unfolding(model::specs::Messages::unreg))]
 pub fn put_unreg(out: &mut [u8], handle: u64) -> usize
     requires { output_bytes ≤ length out.old }
     ensures { Wrote (unreg handle) out.old result out.new }
@@ -226,6 +214,7 @@ pub fn put_unreg(out: &mut [u8], handle: u64) -> usize
 }
 
 // UNREG_ACK, the answer to an UNREG for a live handle.
+#[tactic(auto, unfolding(model::specs::Messages::unreg_ack))]
 pub fn put_unreg_ack(out: &mut [u8], handle: u64) -> usize
     requires { output_bytes ≤ length out.old }
     ensures { Wrote (unreg_ack handle) out.old result out.new }
@@ -234,6 +223,7 @@ pub fn put_unreg_ack(out: &mut [u8], handle: u64) -> usize
 }
 
 // UNREG_NACK, the answer to any other UNREG.
+#[tactic(auto, unfolding(model::specs::Messages::unreg_nack))]
 pub fn put_unreg_nack(out: &mut [u8], handle: u64) -> usize
     requires { output_bytes ≤ length out.old }
     ensures { Wrote (unreg_nack handle) out.old result out.new }

@@ -1,32 +1,39 @@
--- `messages::no_zero` meets its contract. The loop's invariant: no byte passed is zero. The measure is what is left.
+-- `messages::no_zero` meets its contract: `contains` takes one byte more, as the definition does.
 -- Assumes nothing.
-use mathlib.Core.Path.{sym, ap}
-use mathlib.Core.Bool.{true, not}
-use Prim.Native.Nat.{◌+◌, ◌-◌}
+use mathlib.Core.Path.{◌≡◌, refl, sym, ap, ap₂, ◌∙◌}
+use mathlib.Core.Bool.{Bool, true, false, not, ◌||◌}
+use mathlib.Core.List.{List}
+use Prim.Native.Nat.{ℕ, zero, suc, ◌+◌, ◌-◌, ◌≤◌, ◌<◌}
+use native.Mathlib.Numerals.{add-one}
 use native.Mathlib.Omega.{arith}
-use borrow.Author.Count.{below_none, below_more}
-use Rattle.basics.proofs.Choice.{clash, every-at, every-make}
-use Rattle.messages.specs.Id.{id_byte}
-use Rattle.basics.proofs.Loops.{refute}
-use Rattle.messages.proofs.Rules.{zero-byte, other_byte}
+use lib.Dec.{eqb}
+use lib.ListN.{length, get_or, take, drop, length-drop}
+use Rattle.std.specs.List.{list_any}
+use Rattle.std.proofs.lemmas.List.{get_or-drop}
+use Rattle.std.proofs.lemmas.List.Folds.{list_any_more}
+use Rattle.wire.proofs.Laws.{byte-at}
+use Rattle.basics.specs.Choice.{◌and◌, every}
+use Rattle.messages.specs.Id.{no_zero}
 use Rattle.messages.proofs.no_zero.Goals as goal
 
-pub returns-then-m-i-eq0 : goal.returns-then-m-i-eq0
-returns-then-m-i-eq0 c =
-    let start = c.before.before.before.before in
-    let i = c.before.before.before.loop-i.i in
-    let zero = zero-byte start.args.m.now (20 + i) (c.before.shared_slice_known-1.given (20 + i)).fits c.if-m-i-eq0.true in
-    refute _ (λ t. clash _ (ap not zero) (every-at (λ k. id_byte start.args.m.now k) start.args.count i t (omega arith)))
+neither : (a b : Bool) → not (a || b) ≡ (not a and not b)
+unfolding ◌and◌
+neither true b = refl
+neither false b = refl
 
-pub loop-i-preserved : goal.loop-i-preserved
-loop-i-preserved c =
-    let start = c.before.before.before.before in
-    let i = c.before.before.before.loop-i.i in
-    let other = other_byte start.args.m.now (20 + i) (c.before.shared_slice_known-1.given (20 + i)).fits c.if-m-i-eq0.false in
-    (omega arith, below_more _ _ c.before.before.before.loop-i.invariant.1 (ap not other))
+none_zero : (m : List ℕ) → ((i : ℕ) → get_or m i 0 < 256) → (n : ℕ) → 20 + n ≤ length m → not (list_any (λ y. eqb y 0) (take n (drop 20 m))) ≡ no_zero m n
+unfolding every
+none_zero m bytes zero h = refl
+none_zero m bytes (suc n) h =
+    let below : n < length (drop 20 m) = omega (arith, length-drop 20 m) in
+    ap not (ap (λ (k : ℕ). list_any (λ y. eqb y 0) (take k (drop 20 m))) (sym (add-one n)) ∙ list_any_more (λ y. eqb y 0) (drop 20 m) n 0 below)
+    ∙ neither _ _
+    ∙ ap₂ (λ (a b : Bool). a and b)
+    (none_zero m bytes n (omega arith))
+    (ap (λ (x : ℕ). not (eqb x 0)) (get_or-drop 20 m n 0 ∙ byte-at m (20 + n) (bytes (20 + n))))
 
 pub returns : goal.returns
-returns c = sym (every-make (λ k. id_byte c.before.before.args.m.now k) _ (λ k h. c.before.loop-i.invariant.1 k (omega arith)))
-
-pub loop-i-init : goal.loop-i-init
-loop-i-init c = (omega arith, below_none _)
+returns c =
+    let m = c.args.m.now in
+    let count : 20 + c.args.count - 20 ≡ c.args.count = omega arith in
+    ap not (c.contains.ensures.value ∙ rw count) ∙ none_zero m (λ i. (c.type_inv.m i).fits) c.args.count c.requires

@@ -9,4 +9,4 @@ returns-then-asked-own c =
 
 pub returns : goal.returns
 returns c =
-    rw (right-major _ _ _ _ _ _ _ c.get64-handle.ensures c.get16-asked.ensures.0 c.major_of-own.ensures _ _ _ c.if-asked-own.false c.highest_minor_of-most.ensures c.get16-offered.ensures.0 c.lower-minor.ensures) c.accept.ensures
+    rw (right-major _ _ _ _ _ _ _ c.get64-handle.ensures c.get16-asked.ensures.0 c.major_of-own.ensures _ _ _ c.if-asked-own.false c.highest_minor_of-most.ensures c.get16-offered.ensures.0 c.min-minor.ensures) c.accept.ensures

@@ -14,5 +14,5 @@ unfolding bytes_of reg_req
 returns c =
     let read = c.row_of-row in
     let long = ap (λ (s : Service). length s.id) read.ensures.same in
-    message-stored _ (12 + read.result.length) _ _ (omega (arith, read.ensures.fits.size)) (omega arith) (omega arith)
+    message-stored _ (12 + length read.result.id.now) _ _ (omega arith) (omega arith) (omega arith)
     (rw (← read.ensures.same, c.put_row.ensures, c.put64.ensures, c.put_header.ensures))

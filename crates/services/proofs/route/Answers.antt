@@ -1,36 +1,33 @@
-use borrow.Author.Tests.{eq-eqb, ne_eqb}
+-- `services::route` meets its contract. Services 2 and 3 have one arm.
+-- Assumes nothing.
+use mathlib.Core.Path.{◌≡◌, refl}
+use Prim.Native.Nat.{ℕ, zero, suc, ◌+◌, ◌-◌, ◌<◌}
+use native.Mathlib.Omega.{arith}
+use borrow.Author.Tests.{ne_eqb}
 use Rattle.basics.specs.Choice.{pick, ◌or◌}
+use Rattle.model.specs.declared.Route.TheVariants.{Orders}
 use Rattle.model.specs.Messages.{route}
 use Rattle.services.proofs.route.Goals as goal
 
-pub returns-then-service-eq-DEVICE_SERVICE : goal.returns-then-service-eq-DEVICE_SERVICE
-unfolding route pick
-returns-then-service-eq-DEVICE_SERVICE c = rw (ne_eqb _ _ c.if-service-eq-MEMORY_SERVICE.false, eq-eqb _ _ c.if-service-eq-DEVICE_SERVICE.true)
-
-pub returns-then-service-eq-SHUTDOWN_SERVICE : goal.returns-then-service-eq-SHUTDOWN_SERVICE
+to-orders : (k : ℕ) → k < 2 → Orders ≡ route (2 + k)
 unfolding route pick ◌or◌
-returns-then-service-eq-SHUTDOWN_SERVICE c = rw (ne_eqb _ _ c.if-service-eq-MEMORY_SERVICE.false, ne_eqb _ _ c.if-service-eq-DEVICE_SERVICE.false, eq-eqb _ _ c.if-service-eq-SHUTDOWN_SERVICE.true)
+to-orders zero h = refl
+to-orders (suc zero) h = refl
+to-orders (suc (suc k)) h = absurd (omega arith)
 
-pub returns-then-service-eq-PANIC_SERVICE : goal.returns-then-service-eq-PANIC_SERVICE
+pub returns-in-2 : goal.returns-in-2
+returns-in-2 c =
+    let v = c.args.service in
+    let e : v ≡ 2 + (v - 2) = omega arith in
+    rw e (to-orders (v - 2) (omega arith))
+
+pub returns-in_default : goal.returns-in_default
 unfolding route pick ◌or◌
-returns-then-service-eq-PANIC_SERVICE c =
+returns-in_default c =
+    let v = c.args.service in
     rw (
-      ne_eqb _ _ c.if-service-eq-MEMORY_SERVICE.false,
-      ne_eqb _ _ c.if-service-eq-DEVICE_SERVICE.false,
-      ne_eqb _ _ c.if-service-eq-SHUTDOWN_SERVICE.false,
-      eq-eqb _ _ c.if-service-eq-PANIC_SERVICE.true,
+      ne_eqb v 0 (λ e. omega arith),
+      ne_eqb v 1 (λ e. omega arith),
+      ne_eqb v 2 (λ e. omega arith),
+      ne_eqb v 3 (λ e. omega arith),
     )
-
-pub returns : goal.returns
-unfolding route pick ◌or◌
-returns c =
-    rw (
-      ne_eqb _ _ c.if-service-eq-MEMORY_SERVICE.false,
-      ne_eqb _ _ c.if-service-eq-DEVICE_SERVICE.false,
-      ne_eqb _ _ c.if-service-eq-SHUTDOWN_SERVICE.false,
-      ne_eqb _ _ c.if-service-eq-PANIC_SERVICE.false,
-    )
-
-pub returns-then-service-eq-MEMORY_SERVICE : goal.returns-then-service-eq-MEMORY_SERVICE
-unfolding route pick
-returns-then-service-eq-MEMORY_SERVICE c = rw (eq-eqb _ _ c.if-service-eq-MEMORY_SERVICE.true)
