@@ -8,7 +8,7 @@ ghost use Rattle.model.specs.Memory.{configured_by, answering_configure};
 ghost use Rattle.model.specs.Handler.{Handles};
 ghost use Rattle.configuration.specs.Progress.{ConfiguresAt, ConfiguresOne, ConfiguresAll};
 
-use model::{DR_MEM_RES_FAILURE, DR_MEM_RES_NOWORK, DR_MEM_RES_OK, Handled, MEMORY_SERVICE, State};
+use model::{DR_MEM_RES_FAILURE, DR_MEM_RES_NOWORK, DR_MEM_RES_OK, Handled, State};
 use requests::{Asked, Records};
 
 // The bit of block `i`.
@@ -90,12 +90,7 @@ pub fn configure(state: &mut State, asked: Asked, records: &Records, out: &mut [
     let length = records::put_results_header(out, asked.handle, asked.request, records.count);
     let mask = configure_all(state, records, out);
     let event = if mask == 0 {
-        events::answered(
-            asked.channel,
-            MEMORY_SERVICE as u64,
-            events::CODE_NONE,
-            asked.request,
-        )
+        asked.answered(events::CODE_NONE)
     } else {
         events::configured(asked.channel, mask)
     };

@@ -10,7 +10,7 @@ ghost use Rattle.model.specs.Memory.{addr_in, permanent_range, query_record, que
 ghost use Rattle.model.specs.Handler.{Handles};
 ghost use Rattle.queries.specs.Ranges.{Permanent, PermanentAt};
 
-use model::{DR_MEM_OK, Handled, MEMORY_SERVICE, QUERY_BYTES, REPLY_HEADER_BYTES, State};
+use model::{DR_MEM_OK, Handled, QUERY_BYTES, REPLY_HEADER_BYTES, State};
 use requests::{Asked, Records};
 
 // The permanent pages of a pair: how many bytes, and where they begin.
@@ -101,11 +101,6 @@ pub fn query(state: &State, asked: Asked, records: &Records, out: &mut [u8]) -> 
     put_query_records(state, records, out);
     Handled {
         length: REPLY_HEADER_BYTES + rest,
-        event: events::answered(
-            asked.channel,
-            MEMORY_SERVICE as u64,
-            events::CODE_NONE,
-            asked.request,
-        ),
+        event: asked.answered(events::CODE_NONE),
     }
 }

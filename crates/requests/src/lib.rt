@@ -3,11 +3,12 @@
 
 ghost use Rattle.std.specs.Prelude.{◌≡◌, ◌+◌, ◌*◌, ◌<◌, ◌≤◌, length};
 ghost use Rattle.model.specs.Memory.{DR-MEM-UNCONF-STATUS, DR-MEM-UNCONF-CANCEL, request_number, addr_in, size_in, has_records, has_nothing, request_of, right_form};
-ghost use Rattle.model.specs.Layout.{memory_header_bytes, most_records, pair_bytes};
+ghost use Rattle.model.specs.Journal.{answered_event};
+ghost use Rattle.model.specs.Layout.{memory_header_bytes, memory_service, most_records, pair_bytes};
 
 use model::{
     DR_MEM_CONFIGURE, DR_MEM_QUERY, DR_MEM_UNCONF_CANCEL, DR_MEM_UNCONF_STATUS, DR_MEM_UNCONFIGURE,
-    MEMORY_HEADER_BYTES, MOST_RECORDS, PAIR_BYTES, Request,
+    Event, MEMORY_HEADER_BYTES, MEMORY_SERVICE, MOST_RECORDS, PAIR_BYTES, Request,
 };
 
 // Who asks: the channel, the handle of the memory service there, and the request's number.
@@ -16,6 +17,15 @@ pub struct Asked {
     pub channel: u64,
     pub handle: u64,
     pub request: u64,
+}
+
+impl Asked {
+    // The event of an answer with this code, where nothing else is to be noted.
+    pub fn answered(self, code: u64) -> Event
+        ensures { result ≡ answered_event self.channel memory_service code self.request }
+    {
+        events::answered(self.channel, MEMORY_SERVICE as u64, code, self.request)
+    }
 }
 
 // The bytes of a request with records, and how many it has.
