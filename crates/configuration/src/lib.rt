@@ -8,7 +8,8 @@ ghost use Rattle.model.specs.Memory.{configured_by, answering_configure};
 ghost use Rattle.model.specs.Handler.{Handles};
 ghost use Rattle.configuration.specs.Progress.{ConfiguresAt, ConfiguresOne, ConfiguresAll};
 
-use model::{DR_MEM_RES_FAILURE, DR_MEM_RES_NOWORK, DR_MEM_RES_OK, Handled, MEMORY_SERVICE, State};
+use model::{DR_MEM_RES_FAILURE, DR_MEM_RES_NOWORK, DR_MEM_RES_OK, Handled, State};
+use requests::{Asked, Records};
 
 // The bit of block `i`.
 fn bit(i: usize) -> u64
@@ -27,7 +28,7 @@ struct OneDone {
 
 // "unconfigured gives OK (0) and configures, configured gives NOWORK (4)"
 fn configure_at(state: &mut State, i: usize) -> OneDone
-    requires { (i < blocks_of state.old) × BlocksInOrder state.old × (length state.old ≡ state_words) }
+    requires { (i < blocks_of state.old) × BlocksInOrder state.old }
     ensures { ConfiguresAt state.old (Some i) result state.new }
 {
     if state::configured_of(state, i) != 0 {
@@ -45,7 +46,7 @@ fn configure_at(state: &mut State, i: usize) -> OneDone
 
 // "unknown gives FAILURE (1) and so does every record after it"
 fn configure_one(state: &mut State, failed: bool, addr: u64, size: u64) -> OneDone
-    requires { BlocksInOrder state.old × (length state.old ≡ state_words) }
+    requires { BlocksInOrder state.old }
     ensures { ConfiguresOne state.old failed addr size result state.new }
 {
     if failed {
@@ -54,8 +55,7 @@ fn configure_one(state: &mut State, failed: bool, addr: u64, size: u64) -> OneDo
             bit: 0,
         };
     }
-    let found = blocks::named_block(state, addr, size);
-    match found {
+    match blocks::named_block(state, addr, size) {
         Some(place) => configure_at(state, place),
         None => OneDone {
             result: DR_MEM_RES_FAILURE,
@@ -66,49 +66,33 @@ fn configure_one(state: &mut State, failed: bool, addr: u64, size: u64) -> OneDo
 
 // "CONFIGURE: in order": the bits of the blocks configured. Each record is told after it is handled, with its block's status by then: a block that a record names is not
 // unconfigured after it, and after a failure none changes, so that is the status after the request.
-fn configure_all(state: &mut State, b: &[u8], n: usize, out: &mut [u8]) -> u64
-    requires { (n ≤ most_records) × (length b.now ≡ memory_header_bytes + n * pair_bytes) × BlocksInOrder state.old × (output_bytes ≤ length out.old) }
-    ensures { ConfiguresAll state.old b.now n out.old result state.new out.new }
+fn configure_all(state: &mut State, records: &Records, out: &mut [u8]) -> u64
+    requires { BlocksInOrder state.old × (output_bytes ≤ length out.old) }
+    ensures { ConfiguresAll state.old records.now.bytes.now records.now.count out.old result state.new out.new }
 {
-    state::word_count(state);
-    let mut mask: u64 = 0;
+    let mut mask = 0;
     let mut failed = false;
-    let mut i: usize = 0;
-    while i < n {
-        let addr = requests::address(b, i);
-        let size = requests::size(b, i);
+    for i in 0..records.count {
+        let (addr, size) = records.pair(i);
         let step = configure_one(state, failed, addr, size);
         records::put_result(state, out, i, addr, size, step.result);
         mask += step.bit;
         failed = step.result == DR_MEM_RES_FAILURE;
-        i += 1;
     }
     mask
 }
 
 // CONFIGURE while none is: kind 11 where a block was configured, else kind 10.
-pub fn configure(
-    state: &mut State,
-    channel: u64,
-    handle: u64,
-    request: u64,
-    b: &[u8],
-    n: usize,
-    out: &mut [u8],
-) -> Handled
-    requires { BlocksInOrder state.old × (n ≤ most_records) × (length b.now ≡ memory_header_bytes + n * pair_bytes) × (output_bytes ≤ length out.old) }
-    ensures { Handles (answering_configure (configured_by state.old b.now n) channel handle request b.now n) out.old result.length result.event state.new out.new }
+pub fn configure(state: &mut State, asked: Asked, records: &Records, out: &mut [u8]) -> Handled
+    requires { BlocksInOrder state.old × (output_bytes ≤ length out.old) }
+    ensures { Handles (answering_configure (configured_by state.old records.now.bytes.now records.now.count) asked.channel asked.handle asked.request records.now.bytes.now records.now.count) out.old result.length result.event state.new out.new }
 {
-    let length = records::put_results_header(out, handle, request, n);
-    let mask = configure_all(state, b, n, out);
-    if mask == 0 {
-        return Handled {
-            length: length,
-            event: events::answered(channel, MEMORY_SERVICE as u64, events::CODE_NONE, request),
-        };
-    }
-    Handled {
-        length: length,
-        event: events::configured(channel, mask),
-    }
+    let length = records::put_results_header(out, asked.handle, asked.request, records.count);
+    let mask = configure_all(state, records, out);
+    let event = if mask == 0 {
+        asked.answered(events::CODE_NONE)
+    } else {
+        events::configured(asked.channel, mask)
+    };
+    Handled { length, event }
 }

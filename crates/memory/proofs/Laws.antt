@@ -9,7 +9,7 @@ use native.Mathlib.Omega.{arith}
 use lib.ListN.{length, get_or}
 use lib.Seq.{sets}
 use borrow.Author.Tests.{lt-ltb, le-ltb, eqb-true, ltb-true}
-use Rattle.wire.specs.BigEndian.{bytes_of, written}
+use Rattle.wire.specs.BigEndian.{bytes_of}
 use Rattle.wire.proofs.Laws.{sets-whole}
 use Rattle.basics.specs.Choice.{pick, ◌and◌, joined}
 use Rattle.model.specs.declared.Event.{Event}
@@ -26,7 +26,7 @@ use Rattle.model.specs.Handler.{Handles}
 use Rattle.basics.proofs.Choice.{on-pick, both, and-false, and-false-right}
 use Rattle.model.proofs.Rules.{sound-facts, sound-block}
 use Rattle.model.proofs.Sounds.{named-less}
-use Rattle.model.proofs.Replies.{memory-length, result-length, status-length}
+use Rattle.model.proofs.Replies.{result-length, status-length}
 use Rattle.removal_state.proofs.Laws.{collected-is, count-is, position-is, size_is}
 use Rattle.requests.proofs.Laws.{counted}
 use Rattle.records.specs.Header.{memory_header}
@@ -86,41 +86,42 @@ module _ (part s : List ℕ) (long : length part ≡ status_bytes) (few : (remov
   told-settled l e₁ e₂ = status-settled part (removal_of s) long (rw (← position-is s p, ← count-is s n) l) e₁ e₂
 
 -- STATUS and CANCEL.
-module _ (s out : List ℕ) (c handle request : ℕ) {e : Event} {out' : List ℕ} where
-  pub report-none : is_set (outstanding_of s) ≡ false → e ≡ answered_event c memory_service code_none request → out' ≡ written (memory_reply handle DR-MEM-OK 0 request []) out → Handles (reporting s c handle request) out reply_header_bytes e s out'
-  unfolding reporting answering pick
-  report-none f n w =
-      rw f (record { length' = sym (memory-length handle DR-MEM-OK 0 request []); notes = n; state = refl; output = w })
+-- the answer where there is nothing to tell or to change
+abbrev pub Unchanged : List ℕ → List ℕ → ℕ → ℕ → ℕ → ℕ → Event → List ℕ → Type 0
+Unchanged s out c handle request l e out' =
+    Handles (answering s c code_none request (memory_reply handle DR-MEM-OK 0 request [])) out l e s out'
 
-  pub report-some : {out₁ : List ℕ} → is_set (outstanding_of s) ≡ true → e ≡ answered_event c memory_service code_none request → output_bytes ≤ length out → out₁ ≡ sets out 0 (memory_header handle DR-MEM-OK 1 request status_bytes) → out' ≡ sets out₁ reply_header_bytes (status_record (removal_of s)) → Handles (reporting s c handle request) out (reply_header_bytes + status_bytes) e s out'
-  unfolding reporting answering pick
-  report-some t n room h w =
-      rw t
-      (record {
-        length' = reply-length handle DR-MEM-OK 1 request (status_record (removal_of s)) out (status-length (removal_of s));
-        notes = n;
-        state = refl;
-        output = reply-stored handle DR-MEM-OK 1 request (status_record (removal_of s)) out status_bytes (status-length (removal_of s)) (omega arith) h w;
-      })
+module _ (s out : List ℕ) (c handle request : ℕ) {l : ℕ} {e : Event} {out' : List ℕ} where
+  pub report-none : false ≡ is_set (outstanding_of s) → Unchanged s out c handle request l e out' → Handles (reporting s c handle request) out l e s out'
+  unfolding reporting pick
+  report-none f h = rw (← f) h
 
-  module _ (w : out' ≡ written (memory_reply handle DR-MEM-OK 0 request []) out) where
-    pub cancel-idle : is_set (outstanding_of s) ≡ false → e ≡ answered_event c memory_service code_none request → Handles (cancelling s c handle request) out reply_header_bytes e s out'
-    unfolding cancelling answering pick ◌and◌
-    cancel-idle f n =
-        rw f (record { length' = sym (memory-length handle DR-MEM-OK 0 request []); notes = n; state = refl; output = w })
+  pub cancel-idle : false ≡ is_set (outstanding_of s) → Unchanged s out c handle request l e out' → Handles (cancelling s c handle request) out l e s out'
+  unfolding cancelling pick ◌and◌
+  cancel-idle f h = rw (← f) h
 
-    pub cancel-again : is_set (outstanding_of s) ≡ true → (removal_of s).cancelled ≡ true → e ≡ answered_event c memory_service code_none request → Handles (cancelling s c handle request) out reply_header_bytes e s out'
-    unfolding cancelling answering pick ◌and◌
-    cancel-again t k n =
-        rw (t, k) (record { length' = sym (memory-length handle DR-MEM-OK 0 request []); notes = n; state = refl; output = w })
+  pub cancel-again : true ≡ is_set (outstanding_of s) → (removal_of s).cancelled ≡ true → Unchanged s out c handle request l e out' → Handles (cancelling s c handle request) out l e s out'
+  unfolding cancelling pick ◌and◌
+  cancel-again t k h = rw (← t, k) h
 
-    pub cancel-marks : {s' : List ℕ} → is_set (outstanding_of s) ≡ true → (removal_of s).cancelled ≡ false → s' ≡ with_removal s (marked (removal_of s)) → e ≡ cancelled_event c request → Handles (cancelling s c handle request) out reply_header_bytes e s' out'
-    unfolding cancelling pick ◌and◌
-    cancel-marks {s'} t k f n =
-        rw t
-        (subst (λ (b : Bool). Handles (pick (not b) (effect (cancelled_event c request) (with_removal s (marked (removal_of s))) (memory_reply handle DR-MEM-OK 0 request [])) (answering s c code_none request (memory_reply handle DR-MEM-OK 0 request []))) out reply_header_bytes e s' out')
-        (sym k)
-        (record { length' = sym (memory-length handle DR-MEM-OK 0 request []); notes = n; state = f; output = w }))
+  pub cancel-marks : {s' : List ℕ} {e' : Event} → true ≡ is_set (outstanding_of s) → (removal_of s).cancelled ≡ false → Unchanged s out c handle request l e out' → s' ≡ with_removal s (marked (removal_of s)) → e' ≡ cancelled_event c request → Handles (cancelling s c handle request) out l e' s' out'
+  unfolding cancelling answering pick ◌and◌
+  cancel-marks {s'} {e'} t k h f n =
+      rw (← t)
+      (subst (λ (b : Bool). Handles (pick (not b) (effect (cancelled_event c request) (with_removal s (marked (removal_of s))) (memory_reply handle DR-MEM-OK 0 request [])) (answering s c code_none request (memory_reply handle DR-MEM-OK 0 request []))) out l e' s' out')
+      (sym k)
+      (record { length' = h.length'; notes = n; state = f; output = h.output }))
+
+pub report-some : (s out : List ℕ) (c handle request : ℕ) {e : Event} {out₁ out' : List ℕ} → true ≡ is_set (outstanding_of s) → e ≡ answered_event c memory_service code_none request → output_bytes ≤ length out → out₁ ≡ sets out 0 (memory_header handle DR-MEM-OK 1 request status_bytes) → out' ≡ sets out₁ reply_header_bytes (status_record (removal_of s)) → Handles (reporting s c handle request) out (reply_header_bytes + status_bytes) e s out'
+unfolding reporting answering pick
+report-some s out c handle request t n room h w =
+    rw (← t)
+    (record {
+      length' = reply-length handle DR-MEM-OK 1 request (status_record (removal_of s)) out (status-length (removal_of s));
+      notes = n;
+      state = refl;
+      output = reply-stored handle DR-MEM-OK 1 request (status_record (removal_of s)) out status_bytes (status-length (removal_of s)) (omega arith) h w;
+    })
 
 -- the record of a pair that was read
 pub pair_same : (s b : List ℕ) (i r : ℕ) {addr size : ℕ} → addr ≡ addr_in b i → size ≡ size_in b i → result_record s addr size r ≡ result_record s (addr_in b i) (size_in b i) r
@@ -166,14 +167,14 @@ formed b y e d = subst (Formed b) (sym e ∙ d) (formed-all b)
 
 -- A request's form and its number.
 module _ (s : List ℕ) (c handle : ℕ) (b : List ℕ) {request : ℕ} {asked : Request} (n : request ≡ request_number b) (a : asked ≡ request_of b) where
-  pub form-error : right_form asked ≡ false → answering_error s c handle request ≡ answered_memory s c handle b
+  pub form-error : false ≡ right_form asked → answering_error s c handle request ≡ answered_memory s c handle b
   unfolding answered_memory pick
-  form-error z = sym (rw (← n, ← a, z, and-false false (rises s c request) refl))
+  form-error z = sym (rw (← n, ← a, ← z, and-false false (rises s c request) refl))
 
-  pub number-error : rises s c request ≡ false → answering_error s c handle request ≡ answered_memory s c handle b
+  pub number-error : false ≡ rises s c request → answering_error s c handle request ≡ answered_memory s c handle b
   unfolding answered_memory pick
-  number-error z = sym (rw (← n, ← a, z, and-false-right (right_form asked) false refl))
+  number-error z = sym (rw (← n, ← a, ← z, and-false-right (right_form asked) false refl))
 
-  pub number-risen : right_form asked ≡ true → rises s c request ≡ true → requested (with_number s c 1 request) c handle request b asked ≡ answered_memory s c handle b
+  pub number-risen : true ≡ right_form asked → true ≡ rises s c request → requested (with_number s c 1 request) c handle request b asked ≡ answered_memory s c handle b
   unfolding answered_memory pick ◌and◌
-  number-risen z w = sym (rw (← n, ← a, z, w))
+  number-risen z w = sym (rw (← n, ← a, ← z, ← w))

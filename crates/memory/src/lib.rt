@@ -1,7 +1,7 @@
 // "Memory messages (service 0)": what each request does to the state, and its reply; CONFIGURE and QUERY by their own crates.
 #![tactic(auto)]
 
-ghost use Rattle.std.specs.Prelude.{◌≡◌, true, List, ℕ, ◌+◌, ◌*◌, ◌≤◌, ◌<◌, length};
+ghost use Rattle.std.specs.Prelude.{◌≡◌, true, List, [], ℕ, ◌+◌, ◌*◌, ◌≤◌, ◌<◌, length};
 ghost use Rattle.std.proofs.lemmas.List.Edits.{sets};
 ghost use Rattle.basics.specs.Choice.{joined};
 ghost use Rattle.model.specs.declared.Request.TheVariants.{Configure, Unconfigure};
@@ -9,35 +9,50 @@ ghost use Rattle.model.specs.Layout.{channel_count, memory_header_bytes, most_re
 ghost use Rattle.model.specs.Search.{BlocksInOrder};
 ghost use Rattle.model.specs.Blocks.{most_pages};
 ghost use Rattle.model.specs.State.{sound};
-ghost use Rattle.model.specs.Memory.{DR-MEM-RES-BLOCKED, addr_in, answered_memory, answering_error, beginning, blocked, cancelling, reporting, request_of, requested, result_record, size_in, status_record};
+ghost use Rattle.model.specs.Memory.{DR-MEM-RES-BLOCKED, addr_in, answered_memory, answering, answering_error, beginning, blocked, cancelling, memory_reply, reporting, request_of, requested, result_record, size_in, status_record};
 ghost use Rattle.model.specs.Handler.{Handles, HandlesSilently};
 
 use model::{
-    DR_MEM_ERROR, DR_MEM_OK, DR_MEM_RES_BLOCKED, Handled, MEMORY_SERVICE, REPLY_HEADER_BYTES,
-    Request, STATUS_BYTES, State,
+    DR_MEM_ERROR, DR_MEM_OK, DR_MEM_RES_BLOCKED, Handled, REPLY_HEADER_BYTES, Request,
+    STATUS_BYTES, State,
 };
+use requests::{Asked, Records};
 
-// "ERROR 0x65, argument 0, the same req_num .., no more."
-fn error(channel: u64, handle: u64, request: u64, out: &mut [u8]) -> Handled
+// A reply without records to a request that changes nothing, noted with the code.
+fn reply_bare(asked: Asked, kind: u32, code: u64, out: &mut [u8]) -> Handled
     requires { output_bytes ≤ length out.old }
-    ensures { (s : List ℕ) → Handles (answering_error s channel handle request) out.old result.length result.event s out.new }
+    ensures { (s : List ℕ) → Handles (answering s asked.channel code asked.request (memory_reply asked.handle kind 0 asked.request [])) out.old result.length result.event s out.new }
 {
-    records::put_bare(out, handle, DR_MEM_ERROR, request);
+    records::put_bare(out, asked.handle, kind, asked.request);
     Handled {
         length: REPLY_HEADER_BYTES,
-        event: events::answered(channel, MEMORY_SERVICE as u64, events::CODE_ERROR, request),
+        event: asked.answered(code),
     }
 }
 
-// "UNCONFIGURE is begun; its reply comes from work."
-fn begin(state: &mut State, channel: u64, handle: u64, request: u64, b: &[u8], n: usize) -> Handled
-    requires { (n ≤ most_records) × (length b.now ≡ memory_header_bytes + n * pair_bytes) }
-    ensures { HandlesSilently (beginning state.old channel handle request b.now n) result.length result.event state.new }
+// "ERROR 0x65, argument 0, the same req_num .., no more."
+fn error(asked: Asked, out: &mut [u8]) -> Handled
+    requires { output_bytes ≤ length out.old }
+    ensures { (s : List ℕ) → Handles (answering_error s asked.channel asked.handle asked.request) out.old result.length result.event s out.new }
 {
-    removal_state::begin(state, channel, handle, request, n, b);
+    reply_bare(asked, DR_MEM_ERROR, events::CODE_ERROR, out)
+}
+
+// "UNCONFIGURE is begun; its reply comes from work."
+fn begin(state: &mut State, asked: Asked, records: &Records) -> Handled
+    ensures { HandlesSilently (beginning state.old asked.channel asked.handle asked.request records.now.bytes.now records.now.count) result.length result.event state.new }
+{
+    removal_state::begin(
+        state,
+        asked.channel,
+        asked.handle,
+        asked.request,
+        records.count,
+        records.bytes,
+    );
     Handled {
         length: 0,
-        event: events::begun(channel, n as u64, request),
+        event: events::begun(asked.channel, records.count as u64, asked.request),
     }
 }
 
@@ -54,165 +69,92 @@ fn put_status_record(state: &State, part: &mut [u8])
             8,
             removal_state::collected_of(state) * blocks::PAGE_SIZE,
         );
-        return;
+    } else {
+        wire::put64(part, 0, 0);
+        wire::put64(part, 8, 0);
     }
-    wire::put64(part, 0, 0);
-    wire::put64(part, 8, 0);
 }
 
 // STATUS: "argument 0 if none is outstanding, else 1 and" the record.
-fn report(state: &State, channel: u64, handle: u64, request: u64, out: &mut [u8]) -> Handled
+fn report(state: &State, asked: Asked, out: &mut [u8]) -> Handled
     requires { (sound state.now ≡ true) × (output_bytes ≤ length out.old) }
-    ensures { Handles (reporting state.now channel handle request) out.old result.length result.event state.now out.new }
+    ensures { Handles (reporting state.now asked.channel asked.handle asked.request) out.old result.length result.event state.now out.new }
 {
-    if !state::is_outstanding(state) {
-        records::put_bare(out, handle, DR_MEM_OK, request);
-        return Handled {
-            length: REPLY_HEADER_BYTES,
-            event: events::answered(channel, MEMORY_SERVICE as u64, events::CODE_NONE, request),
-        };
-    }
-    records::put_header(out, handle, DR_MEM_OK, 1, request, STATUS_BYTES);
-    put_status_record(
-        state,
-        &mut out[REPLY_HEADER_BYTES..REPLY_HEADER_BYTES + STATUS_BYTES],
-    );
-    Handled {
-        length: REPLY_HEADER_BYTES + STATUS_BYTES,
-        event: events::answered(channel, MEMORY_SERVICE as u64, events::CODE_NONE, request),
+    if state::is_outstanding(state) {
+        records::put_header(out, asked.handle, DR_MEM_OK, 1, asked.request, STATUS_BYTES);
+        let length = REPLY_HEADER_BYTES + STATUS_BYTES;
+        put_status_record(state, &mut out[REPLY_HEADER_BYTES..length]);
+        Handled {
+            length,
+            event: asked.answered(events::CODE_NONE),
+        }
+    } else {
+        reply_bare(asked, DR_MEM_OK, events::CODE_NONE, out)
     }
 }
 
 // "CANCEL: reply argument 0. .. a second CANCEL changes nothing."
-fn cancel(state: &mut State, channel: u64, handle: u64, request: u64, out: &mut [u8]) -> Handled
+fn cancel(state: &mut State, asked: Asked, out: &mut [u8]) -> Handled
     requires { (sound state.old ≡ true) × (output_bytes ≤ length out.old) }
-    ensures { Handles (cancelling state.old channel handle request) out.old result.length result.event state.new out.new }
+    ensures { Handles (cancelling state.old asked.channel asked.handle asked.request) out.old result.length result.event state.new out.new }
 {
-    records::put_bare(out, handle, DR_MEM_OK, request);
-    if !state::is_outstanding(state) {
+    let unchanged = reply_bare(asked, DR_MEM_OK, events::CODE_NONE, out);
+    if state::is_outstanding(state) && !removal_state::is_cancelled(state) {
+        removal_state::mark(state);
         return Handled {
-            length: REPLY_HEADER_BYTES,
-            event: events::answered(channel, MEMORY_SERVICE as u64, events::CODE_NONE, request),
+            event: events::cancelled(asked.channel, asked.request),
+            ..unchanged
         };
     }
-    if removal_state::is_cancelled(state) {
-        return Handled {
-            length: REPLY_HEADER_BYTES,
-            event: events::answered(channel, MEMORY_SERVICE as u64, events::CODE_NONE, request),
-        };
-    }
-    removal_state::mark(state);
-    Handled {
-        length: REPLY_HEADER_BYTES,
-        event: events::cancelled(channel, request),
-    }
+    unchanged
 }
 
 // The records of a request, each BLOCKED.
-fn put_blocked(state: &State, b: &[u8], n: usize, out: &mut [u8])
-    requires { BlocksInOrder state.now × (n ≤ most_records) × (length b.now ≡ memory_header_bytes + n * pair_bytes) × (output_bytes ≤ length out.old) }
-    ensures { out.new ≡ sets out.old reply_header_bytes (joined (λ i. result_record state.now (addr_in b.now i) (size_in b.now i) DR-MEM-RES-BLOCKED) n) }
+fn put_blocked(state: &State, records: &Records, out: &mut [u8])
+    requires { BlocksInOrder state.now × (output_bytes ≤ length out.old) }
+    ensures { out.new ≡ sets out.old reply_header_bytes (joined (λ i. result_record state.now (addr_in records.now.bytes.now i) (size_in records.now.bytes.now i) DR-MEM-RES-BLOCKED) records.now.count) }
 {
-    let mut i: usize = 0;
-    while i < n {
-        let addr = requests::address(b, i);
-        let size = requests::size(b, i);
+    for i in 0..records.count {
+        let (addr, size) = records.pair(i);
         records::put_result(state, out, i, addr, size, DR_MEM_RES_BLOCKED);
-        i += 1;
     }
 }
 
 // "CONFIGURE or UNCONFIGURE while a removal is outstanding: every record BLOCKED (2)."
-fn block(
-    state: &State,
-    channel: u64,
-    handle: u64,
-    request: u64,
-    b: &[u8],
-    n: usize,
-    out: &mut [u8],
-) -> Handled
-    requires { BlocksInOrder state.now × (n ≤ most_records) × (length b.now ≡ memory_header_bytes + n * pair_bytes) × (output_bytes ≤ length out.old) }
-    ensures { Handles (blocked state.now channel handle request b.now n) out.old result.length result.event state.now out.new }
+fn block(state: &State, asked: Asked, records: &Records, out: &mut [u8]) -> Handled
+    requires { BlocksInOrder state.now × (output_bytes ≤ length out.old) }
+    ensures { Handles (blocked state.now asked.channel asked.handle asked.request records.now.bytes.now records.now.count) out.old result.length result.event state.now out.new }
 {
-    let length = records::put_results_header(out, handle, request, n);
-    put_blocked(state, b, n, out);
+    let length = records::put_results_header(out, asked.handle, asked.request, records.count);
+    put_blocked(state, records, out);
     Handled {
-        length: length,
-        event: events::answered(
-            channel,
-            MEMORY_SERVICE as u64,
-            events::CODE_BLOCKED,
-            request,
-        ),
+        length,
+        event: asked.answered(events::CODE_BLOCKED),
     }
-}
-
-// A CONFIGURE of right form.
-fn hear_configure(
-    state: &mut State,
-    channel: u64,
-    handle: u64,
-    request: u64,
-    b: &[u8],
-    n: usize,
-    out: &mut [u8],
-) -> Handled
-    requires { BlocksInOrder state.old × (n ≤ most_records) × (length b.now ≡ memory_header_bytes + n * pair_bytes) × (output_bytes ≤ length out.old) }
-    ensures { Handles (requested state.old channel handle request b.now (Configure n)) out.old result.length result.event state.new out.new }
-{
-    if state::is_outstanding(state) {
-        return block(state, channel, handle, request, b, n, out);
-    }
-    configuration::configure(state, channel, handle, request, b, n, out)
-}
-
-// An UNCONFIGURE of right form.
-fn hear_unconfigure(
-    state: &mut State,
-    channel: u64,
-    handle: u64,
-    request: u64,
-    b: &[u8],
-    n: usize,
-    out: &mut [u8],
-) -> Handled
-    requires { BlocksInOrder state.old × (n ≤ most_records) × (length b.now ≡ memory_header_bytes + n * pair_bytes) × (output_bytes ≤ length out.old) }
-    ensures { Handles (requested state.old channel handle request b.now (Unconfigure n)) out.old result.length result.event state.new out.new }
-{
-    let outstanding = state::is_outstanding(state);
-    if outstanding {
-        return block(state, channel, handle, request, b, n, out);
-    }
-    begin(state, channel, handle, request, b, n)
 }
 
 // Each request by its own function.
-fn dispatch(
-    state: &mut State,
-    channel: u64,
-    handle: u64,
-    request: u64,
-    b: &[u8],
-    asked: Request,
-    out: &mut [u8],
-) -> Handled
-    requires { (sound state.old ≡ true) × (output_bytes ≤ length out.old) × (asked ≡ request_of b.now) }
-    ensures { Handles (requested state.old channel handle request b.now asked) out.old result.length result.event state.new out.new }
+fn dispatch(state: &mut State, asked: Asked, b: &[u8], decoded: Request, out: &mut [u8]) -> Handled
+    requires { (sound state.old ≡ true) × (output_bytes ≤ length out.old) × (decoded ≡ request_of b.now) }
+    ensures { Handles (requested state.old asked.channel asked.handle asked.request b.now decoded) out.old result.length result.event state.new out.new }
 {
-    match asked {
+    match decoded {
+        Request::Configure { records } if state::is_outstanding(state) => {
+            block(state, asked, &Records::new(b, records), out)
+        }
         Request::Configure { records } => {
-            hear_configure(state, channel, handle, request, b, records as usize, out)
+            configuration::configure(state, asked, &Records::new(b, records), out)
         }
-        Request::Unconfigure { records } => {
-            hear_unconfigure(state, channel, handle, request, b, records as usize, out)
+        Request::Unconfigure { records } if state::is_outstanding(state) => {
+            block(state, asked, &Records::new(b, records), out)
         }
+        Request::Unconfigure { records } => begin(state, asked, &Records::new(b, records)),
         Request::Query { records } => {
-            queries::query(state, channel, handle, request, b, records as usize, out)
+            queries::query(state, asked, &Records::new(b, records), out)
         }
-        Request::Status => report(state, channel, handle, request, out),
-        Request::Cancel => cancel(state, channel, handle, request, out),
-        Request::Malformed => error(channel, handle, request, out),
+        Request::Status => report(state, asked, out),
+        Request::Cancel => cancel(state, asked, out),
+        Request::Malformed => error(asked, out),
     }
 }
 
@@ -223,13 +165,16 @@ pub fn answer(state: &mut State, channel: u64, handle: u64, b: &[u8], out: &mut 
     ensures { Handles (answered_memory state.old channel handle b.now) out.old result.length result.event state.new out.new }
 {
     let request = requests::number(b);
-    let asked = requests::decode(b);
-    if !requests::right_form(asked) {
-        return error(channel, handle, request, out);
+    let asked = Asked {
+        channel,
+        handle,
+        request,
+    };
+    let decoded = requests::decode(b);
+    if requests::right_form(decoded) && state::rises(state, channel as usize, request) {
+        state::set_number(state, channel as usize, 1, request);
+        dispatch(state, asked, b, decoded, out)
+    } else {
+        error(asked, out)
     }
-    if !state::rises(state, channel as usize, request) {
-        return error(channel, handle, request, out);
-    }
-    state::set_number(state, channel as usize, 1, request);
-    dispatch(state, channel, handle, request, b, asked, out)
 }

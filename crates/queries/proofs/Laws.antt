@@ -8,7 +8,7 @@ use Rattle.basics.specs.Choice.{pick, joined}
 use Rattle.model.specs.declared.Event.{Event}
 use Rattle.model.specs.Layout.{memory_service, most_records, output_bytes, query_bytes, reply_header_bytes}
 use Rattle.model.specs.Blocks.{named_block}
-use Rattle.model.specs.Journal.{code_none, answered_event, stored}
+use Rattle.model.specs.Journal.{code_none, answered_event}
 use Rattle.model.specs.Memory.{DR-MEM-OK, addr_in, answering, permanent_bytes, permanent_first, permanent_range, query_record, querying, size_in}
 use Rattle.model.specs.Handler.{Handles}
 use Rattle.basics.proofs.Choice.{joined_length}

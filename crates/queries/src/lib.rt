@@ -10,7 +10,8 @@ ghost use Rattle.model.specs.Memory.{addr_in, permanent_range, query_record, que
 ghost use Rattle.model.specs.Handler.{Handles};
 ghost use Rattle.queries.specs.Ranges.{Permanent, PermanentAt};
 
-use model::{DR_MEM_OK, Handled, MEMORY_SERVICE, QUERY_BYTES, REPLY_HEADER_BYTES, State};
+use model::{DR_MEM_OK, Handled, QUERY_BYTES, REPLY_HEADER_BYTES, State};
+use requests::{Asked, Records};
 
 // The permanent pages of a pair: how many bytes, and where they begin.
 #[derive(Clone, Copy)]
@@ -26,10 +27,7 @@ fn permanent_at(state: &State, i: usize) -> Range
 {
     let bytes = state::permanent_of(state, i) * blocks::PAGE_SIZE;
     let first = state::base_of(state, i) + state::first_of(state, i) * blocks::PAGE_SIZE;
-    Range {
-        bytes: bytes,
-        first: first,
-    }
+    Range { bytes, first }
 }
 
 // "An unknown block counts as wholly permanent"
@@ -37,8 +35,7 @@ fn permanent_of(state: &State, addr: u64, size: u64) -> Range
     requires { sound state.now ≡ true }
     ensures { Permanent state.now addr size result }
 {
-    let found = blocks::named_block(state, addr, size);
-    match found {
+    match blocks::named_block(state, addr, size) {
         Some(place) => permanent_at(state, place),
         None => Range {
             bytes: size,
@@ -48,19 +45,20 @@ fn permanent_of(state: &State, addr: u64, size: u64) -> Range
 }
 
 // "permanent bytes, first and last permanent address (last byte), all three 0 if none"
-fn put_range(part: &mut [u8], bytes: u64, first: u64)
+fn put_range(part: &mut [u8], range: Range)
     requires { length part.old ≡ query_bytes }
-    ensures { part.new ≡ sets part.old 16 (permanent_range bytes first) }
+    ensures { part.new ≡ sets part.old 16 (permanent_range range.bytes range.first) }
 {
+    let Range { bytes, first } = range;
     if bytes == 0 {
         wire::put64(part, 16, 0);
         wire::put64(part, 24, 0);
         wire::put64(part, 32, 0);
-        return;
+    } else {
+        wire::put64(part, 16, bytes);
+        wire::put64(part, 24, first);
+        wire::put64(part, 32, first.wrapping_add(bytes - 1));
     }
-    wire::put64(part, 16, bytes);
-    wire::put64(part, 24, first);
-    wire::put64(part, 32, std::num::wrapping_add_u64(first, bytes - 1));
 }
 
 // "QUERY, 40 bytes a record": the part is the record.
@@ -71,42 +69,38 @@ fn put_query_record(state: &State, part: &mut [u8], addr: u64, size: u64)
     let range = permanent_of(state, addr, size);
     wire::put64(part, 0, addr);
     wire::put64(part, 8, size);
-    put_range(part, range.bytes, range.first);
+    put_range(part, range);
 }
 
 // Each record is lent its own part, after the headers.
-fn put_query_records(state: &State, b: &[u8], n: usize, out: &mut [u8])
-    requires { (sound state.now ≡ true) × (n ≤ most_records) × (length b.now ≡ memory_header_bytes + n * pair_bytes) × (output_bytes ≤ length out.old) }
-    ensures { out.new ≡ sets out.old reply_header_bytes (joined (λ i. query_record state.now (addr_in b.now i) (size_in b.now i)) n) }
+fn put_query_records(state: &State, records: &Records, out: &mut [u8])
+    requires { (sound state.now ≡ true) × (output_bytes ≤ length out.old) }
+    ensures { out.new ≡ sets out.old reply_header_bytes (joined (λ i. query_record state.now (addr_in records.now.bytes.now i) (size_in records.now.bytes.now i)) records.now.count) }
 {
-    let mut i: usize = 0;
-    while i < n {
-        let addr = requests::address(b, i);
-        let size = requests::size(b, i);
+    for i in 0..records.count {
+        let (addr, size) = records.pair(i);
         let at = REPLY_HEADER_BYTES + i * QUERY_BYTES;
-        let end = at + QUERY_BYTES;
-        put_query_record(state, &mut out[at..end], addr, size);
-        i += 1;
+        put_query_record(state, &mut out[at..at + QUERY_BYTES], addr, size);
     }
 }
 
 // QUERY changes nothing.
-pub fn query(
-    state: &State,
-    channel: u64,
-    handle: u64,
-    request: u64,
-    b: &[u8],
-    n: usize,
-    out: &mut [u8],
-) -> Handled
-    requires { (sound state.now ≡ true) × (n ≤ most_records) × (length b.now ≡ memory_header_bytes + n * pair_bytes) × (output_bytes ≤ length out.old) }
-    ensures { Handles (querying state.now channel handle request b.now n) out.old result.length result.event state.now out.new }
+pub fn query(state: &State, asked: Asked, records: &Records, out: &mut [u8]) -> Handled
+    requires { (sound state.now ≡ true) × (output_bytes ≤ length out.old) }
+    ensures { Handles (querying state.now asked.channel asked.handle asked.request records.now.bytes.now records.now.count) out.old result.length result.event state.now out.new }
 {
-    records::put_header(out, handle, DR_MEM_OK, n as u32, request, n * QUERY_BYTES);
-    put_query_records(state, b, n, out);
+    let rest = records.count * QUERY_BYTES;
+    records::put_header(
+        out,
+        asked.handle,
+        DR_MEM_OK,
+        records.count as u32,
+        asked.request,
+        rest,
+    );
+    put_query_records(state, records, out);
     Handled {
-        length: REPLY_HEADER_BYTES + n * QUERY_BYTES,
-        event: events::answered(channel, MEMORY_SERVICE as u64, events::CODE_NONE, request),
+        length: REPLY_HEADER_BYTES + rest,
+        event: asked.answered(events::CODE_NONE),
     }
 }

@@ -21,9 +21,10 @@ fn status_at(state: &State, i: usize) -> u64
     ensures { result ≡ status_at state.now (Some i) }
 {
     if state::configured_of(state, i) == 1 {
-        return 2;
+        2
+    } else {
+        1
     }
-    1
 }
 
 // "status after the request (0 unknown, 1 unconfigured, 2 configured)"
@@ -31,8 +32,7 @@ pub fn status_of(state: &State, addr: u64, size: u64) -> u64
     requires { BlocksInOrder state.now }
     ensures { result ≡ status_of state.now addr size }
 {
-    let found = blocks::named_block(state, addr, size);
-    match found {
+    match blocks::named_block(state, addr, size) {
         Some(place) => status_at(state, place),
         None => 0,
     }
@@ -70,8 +70,7 @@ pub fn put_result(state: &State, out: &mut [u8], i: usize, addr: u64, size: u64,
 {
     let status = status_of(state, addr, size);
     let at = REPLY_HEADER_BYTES + i * RESULT_BYTES;
-    let end = at + RESULT_BYTES;
-    put_result_record(&mut out[at..end], addr, size, res, status);
+    put_result_record(&mut out[at..at + RESULT_BYTES], addr, size, res, status);
 }
 
 // A reply without records.

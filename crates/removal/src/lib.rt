@@ -34,10 +34,8 @@ fn block_now(state: &State) -> Option<usize>
 fn is_over(state: &State) -> bool
     ensures { result ≡ ((removal_of state.now).cancelled or all_settled (removal_of state.now)) }
 {
-    if removal_state::is_cancelled(state) {
-        return true;
-    }
-    removal_state::count_of(state) <= removal_state::position_of(state)
+    removal_state::is_cancelled(state)
+        || removal_state::count_of(state) <= removal_state::position_of(state)
 }
 
 // The code of a failing record: unknown, or with permanent pages.
@@ -56,12 +54,12 @@ fn end_code(state: &State) -> u64
     ensures { result ≡ end_code state.now (removal_of state.now) }
 {
     if removal_state::is_cancelled(state) {
-        return DR_MEM_RES_CANCELLED;
+        DR_MEM_RES_CANCELLED
+    } else if removal_state::count_of(state) <= removal_state::position_of(state) {
+        DR_MEM_RES_OK
+    } else {
+        failing_code(block_now(state))
     }
-    if removal_state::count_of(state) <= removal_state::position_of(state) {
-        return DR_MEM_RES_OK;
-    }
-    failing_code(block_now(state))
 }
 
 // Record i's result at the end, `code` if it is the failing record.
@@ -69,17 +67,16 @@ fn result_at(state: &State, i: usize, code: u64) -> u64
     requires { (i < most_records) × (code ≡ end_code state.now (removal_of state.now)) }
     ensures { result ≡ result_at state.now (removal_of state.now) i }
 {
-    let position = removal_state::position_of(state);
-    if (i as u64) < position {
-        return removal_state::result_of(state, i);
+    let position = removal_state::position_of(state) as usize;
+    if i < position {
+        removal_state::result_of(state, i)
+    } else if removal_state::is_cancelled(state) {
+        DR_MEM_RES_CANCELLED
+    } else if i == position {
+        code
+    } else {
+        DR_MEM_RES_FAILURE
     }
-    if removal_state::is_cancelled(state) {
-        return DR_MEM_RES_CANCELLED;
-    }
-    if i as u64 == position {
-        return code;
-    }
-    DR_MEM_RES_FAILURE
 }
 
 // "If the handle isn't registered on its channel for service 0 any more, no reply is written."
@@ -88,10 +85,8 @@ fn still_registered(state: &State) -> bool
     ensures { result ≡ still_registered state.now (removal_of state.now) }
 {
     let k = removal_state::channel_of(state) as usize * SERVICE_COUNT + MEMORY_SERVICE;
-    if state::stage_of(state, k) != REGISTERED {
-        return false;
-    }
-    state::handle_of(state, k) == removal_state::handle_of(state)
+    state::stage_of(state, k) == REGISTERED
+        && state::handle_of(state, k) == removal_state::handle_of(state)
 }
 
 // The `n` records of the late reply.
@@ -99,13 +94,11 @@ fn put_late_records(state: &State, code: u64, n: usize, out: &mut [u8])
     requires { BlocksInOrder state.now × (n ≤ most_records) × (code ≡ end_code state.now (removal_of state.now)) × (output_bytes ≤ length out.old) }
     ensures { out.new ≡ sets out.old reply_header_bytes (joined (late_record state.now) n) }
 {
-    let mut i: usize = 0;
-    while i < n {
+    for i in 0..n {
         let addr = removal_state::address_of(state, i);
         let size = removal_state::size_of(state, i);
         let result = result_at(state, i, code);
         records::put_result(state, out, i, addr, size, result);
-        i += 1;
     }
 }
 
@@ -133,15 +126,16 @@ fn end_removal(state: &mut State, out: &mut [u8]) -> Handled
     if still_registered(state) {
         let length = put_late_reply(state, code, out);
         state::clear_removal(state);
-        return Handled {
-            length: length,
+        Handled {
+            length,
             event: events::removal_end(channel, code, 1, request),
-        };
-    }
-    state::clear_removal(state);
-    Handled {
-        length: 0,
-        event: events::removal_end(channel, code, 0, request),
+        }
+    } else {
+        state::clear_removal(state);
+        Handled {
+            length: 0,
+            event: events::removal_end(channel, code, 0, request),
+        }
     }
 }
 
@@ -161,7 +155,7 @@ fn pages_moved(pages: u64, collected: u64, budget: u64) -> u64
     requires { collected ≤ pages }
     ensures { result ≡ min budget (pages - collected) }
 {
-    basics::lower(budget, pages - collected)
+    budget.min(pages - collected)
 }
 
 // Collects n pages of the block; "when none remains the block becomes unconfigured and is settled OK."
@@ -172,11 +166,12 @@ fn collect(state: &mut State, block: usize, n: u64) -> Event
     let pages = state::pages_of(state, block);
     if removal_state::collected_of(state) + n == pages {
         state::set_configured(state, block, 0);
-        return settle(state, DR_MEM_RES_OK, n, block as u64);
+        settle(state, DR_MEM_RES_OK, n, block as u64)
+    } else {
+        let channel = removal_state::channel_of(state);
+        removal_state::add_pages(state, n);
+        events::collected(channel, n)
     }
-    let channel = removal_state::channel_of(state);
-    removal_state::add_pages(state, n);
-    events::collected(channel, n)
 }
 
 // "Else, if its block is unconfigured: settle NOWORK. Else collect .."
@@ -208,11 +203,10 @@ fn end_step(state: &mut State, out: &mut [u8]) -> Stepped
     requires { Fits state.old (removal_of state.old) × ((removal_of state.old).channel < channel_count) × (output_bytes ≤ length out.old) }
     ensures { HandlesStep (moving 0 (ending state.old (removal_of state.old))) out.old result.length result.event result.pages state.new out.new }
 {
-    let handled = end_removal(state, out);
-    let event = handled.event;
+    let Handled { length, event } = end_removal(state, out);
     Stepped {
-        length: handled.length,
-        event: event,
+        length,
+        event,
         pages: 0,
     }
 }
@@ -223,19 +217,9 @@ fn work_at(state: &mut State, block: usize, budget: u64, out: &mut [u8]) -> Step
     ensures { HandlesStep (works_at state.old (removal_of state.old) budget (Some block)) out.old result.length result.event result.pages state.new out.new }
 {
     if state::permanent_of(state, block) != 0 {
-        return end_step(state, out);
-    }
-    work_on(state, block, budget)
-}
-
-// The work step of a removal that is not over, by the block that was found.
-fn work_found(state: &mut State, found: Option<usize>, budget: u64, out: &mut [u8]) -> Stepped
-    requires { CanWork state.old × (block_now state.old (removal_of state.old) ≡ found) × (output_bytes ≤ length out.old) }
-    ensures { HandlesStep (works_at state.old (removal_of state.old) budget found) out.old result.length result.event result.pages state.new out.new }
-{
-    match found {
-        Some(place) => work_at(state, place, budget, out),
-        None => end_step(state, out),
+        end_step(state, out)
+    } else {
+        work_on(state, block, budget)
     }
 }
 
@@ -247,6 +231,8 @@ pub fn step(state: &mut State, budget: u64, out: &mut [u8]) -> Stepped
     if is_over(state) {
         return end_step(state, out);
     }
-    let found = block_now(state);
-    work_found(state, found, budget, out)
+    match block_now(state) {
+        Some(block) => work_at(state, block, budget, out),
+        None => end_step(state, out),
+    }
 }

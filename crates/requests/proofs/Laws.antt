@@ -1,7 +1,7 @@
 -- The form of a request, from its tests.
 -- Assumes nothing.
-use mathlib.Core.Path.{◌≡◌, refl, sym, ◌∙◌}
-use mathlib.Core.Bool.{Bool, true, false}
+use mathlib.Core.Path.{◌≡◌, refl, sym}
+use mathlib.Core.Bool.{Bool, true}
 use mathlib.Core.List.{List, [], ◌∷◌}
 use Prim.Native.Nat.{ℕ, ◌+◌, ◌*◌, ◌≤◌, ◌<◌}
 use native.Mathlib.Omega.{arith}
@@ -12,7 +12,7 @@ use Rattle.basics.specs.Choice.{pick, ◌and◌}
 use Rattle.model.specs.declared.Request.{Request}
 use Rattle.model.specs.declared.Request.TheVariants.{Configure, Unconfigure, Query, Status, Cancel, Malformed}
 use Rattle.model.specs.Memory.{request_type, argument_of, has_records, has_nothing, request_of, DR-MEM-CONFIGURE, DR-MEM-QUERY, DR-MEM-UNCONF-CANCEL, DR-MEM-UNCONF-STATUS, DR-MEM-UNCONFIGURE}
-use Rattle.basics.proofs.Choice.{and-false, and-false-right, each_of}
+use Rattle.basics.proofs.Choice.{each_of}
 use Rattle.model.specs.Layout.{memory_header_bytes, most_records, pair_bytes}
 
 -- the numbers of a request with records
@@ -31,7 +31,7 @@ unfolding has_records ◌and◌
 counted-last b some few = rw (le-leb _ _ some, le-leb _ _ few)
 
 -- what a request with a header is, by its type and the two tests of its form
-abbrev chosen : ℕ → Bool → Bool → ℕ → Request
+abbrev pub chosen : ℕ → Bool → Bool → ℕ → Request
 chosen type records nothing n =
     pick (eqb type DR-MEM-CONFIGURE and records) (Configure n)
     (pick (eqb type DR-MEM-UNCONFIGURE and records) (Unconfigure n)
@@ -40,56 +40,14 @@ chosen type records nothing n =
     (pick (eqb type DR-MEM-UNCONF-CANCEL and nothing) Cancel
     Malformed))))
 
-module _ (b : List ℕ) (long : memory_header_bytes ≤ length b) (type : ℕ) (e : type ≡ request_type b) where
-  choose : request_of b ≡ chosen type (has_records b) (has_nothing b) (argument_of b)
+module _ (b : List ℕ) (long : memory_header_bytes ≤ length b) {type n : ℕ} (t : type ≡ request_type b) (a : n ≡ argument_of b) where
+  pub chosen-is : {records nothing : Bool} → records ≡ has_records b → nothing ≡ has_nothing b → chosen type records nothing n ≡ request_of b
   unfolding request_of pick
-  choose = rw (le-ltb _ _ long, e)
+  chosen-is r e = sym (rw (le-ltb _ _ long, ← t, ← a, ← r, ← e))
 
-  pub status-is : type ≡ DR-MEM-UNCONF-STATUS → (nothing : Bool) → nothing ≡ has_nothing b → pick nothing Status Malformed ≡ request_of b
+  pub other-is : (type ≡ DR-MEM-CONFIGURE → ⊥) × (type ≡ DR-MEM-UNCONFIGURE → ⊥) × (type ≡ DR-MEM-QUERY → ⊥) × (type ≡ DR-MEM-UNCONF-STATUS → ⊥) × (type ≡ DR-MEM-UNCONF-CANCEL → ⊥) → Malformed ≡ request_of b
   unfolding pick ◌and◌
-  status-is t nothing q = sym (choose ∙ rw (t, ← q))
-
-  pub cancel-is : type ≡ DR-MEM-UNCONF-CANCEL → (nothing : Bool) → nothing ≡ has_nothing b → pick nothing Cancel Malformed ≡ request_of b
-  unfolding pick ◌and◌
-  cancel-is t nothing q = sym (choose ∙ rw (t, ← q))
-
-  module _ (ns : type ≡ DR-MEM-UNCONF-STATUS → ⊥) (nc : type ≡ DR-MEM-UNCONF-CANCEL → ⊥) where
-    pub none_is : has_records b ≡ false → Malformed ≡ request_of b
-    unfolding pick
-    none_is r =
-        sym (choose
-        ∙ rw (
-          r,
-          and-false-right (eqb type DR-MEM-CONFIGURE) false refl,
-          and-false-right (eqb type DR-MEM-UNCONFIGURE) false refl,
-          and-false-right (eqb type DR-MEM-QUERY) false refl,
-          and-false (eqb type DR-MEM-UNCONF-STATUS) (has_nothing b) (ne_eqb type DR-MEM-UNCONF-STATUS ns),
-          and-false (eqb type DR-MEM-UNCONF-CANCEL) (has_nothing b) (ne_eqb type DR-MEM-UNCONF-CANCEL nc),
-        ))
-
-    pub other-is : (type ≡ DR-MEM-CONFIGURE → ⊥) → (type ≡ DR-MEM-UNCONFIGURE → ⊥) → (type ≡ DR-MEM-QUERY → ⊥) → Malformed ≡ request_of b
-    unfolding pick ◌and◌
-    other-is n₁ n₂ n₃ =
-        sym (choose
-        ∙ rw (
-          ne_eqb type DR-MEM-CONFIGURE n₁,
-          ne_eqb type DR-MEM-UNCONFIGURE n₂,
-          ne_eqb type DR-MEM-QUERY n₃,
-          ne_eqb type DR-MEM-UNCONF-STATUS ns,
-          ne_eqb type DR-MEM-UNCONF-CANCEL nc,
-        ))
-
-  pub configure-is : (n : ℕ) → n ≡ argument_of b → type ≡ DR-MEM-CONFIGURE → has_records b ≡ true → Configure n ≡ request_of b
-  unfolding pick ◌and◌
-  configure-is n q t r = sym (choose ∙ rw (t, r, q))
-
-  pub unconfigure-is : (n : ℕ) → n ≡ argument_of b → type ≡ DR-MEM-UNCONFIGURE → has_records b ≡ true → Unconfigure n ≡ request_of b
-  unfolding pick ◌and◌
-  unconfigure-is n q t r = sym (choose ∙ rw (t, r, q))
-
-  pub query-is : (n : ℕ) → n ≡ argument_of b → type ≡ DR-MEM-QUERY → has_records b ≡ true → Query n ≡ request_of b
-  unfolding pick ◌and◌
-  query-is n q t r = sym (choose ∙ rw (t, r, q))
+  other-is d = rw (← chosen-is {records = has_records b} {nothing = has_nothing b} refl refl, ne_eqb _ _ d.0, ne_eqb _ _ d.1, ne_eqb _ _ d.2, ne_eqb _ _ d.3, ne_eqb _ _ d.4)
 
 pub short-is : (b : List ℕ) → length b < memory_header_bytes → Malformed ≡ request_of b
 unfolding request_of pick

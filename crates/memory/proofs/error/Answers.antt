@@ -1,9 +1,6 @@
-use mathlib.Core.Path.{refl, sym}
-use mathlib.Core.List.{[]}
-use Rattle.model.specs.Memory.{answering, answering_error}
-use Rattle.model.proofs.Replies.{memory-length}
+use Rattle.model.specs.Memory.{answering_error}
 use Rattle.memory.proofs.error.Goals as goal
 
 pub returns : goal.returns
-unfolding answering answering_error
-returns c = λ s. record { length' = sym (memory-length _ _ _ _ []); notes = c.answered.ensures; state = refl; output = c.put_bare.ensures }
+unfolding answering_error
+returns c = c.reply_bare.ensures

@@ -1,7 +1,6 @@
 use Rattle.memory.proofs.Laws.{pair_same}
 use mathlib.Core.Path.{◌∙◌, ◌≡◌, refl}
 use native.Mathlib.Omega.{arith}
-use Prim.Native.Nat.{◌-◌}
 use Rattle.basics.specs.Choice.{joined}
 use Rattle.model.specs.Memory.{DR-MEM-RES-BLOCKED}
 use Rattle.model.proofs.Replies.{result-length}
@@ -14,15 +13,11 @@ put_result-requires c = (omega arith, c.requires.0, omega arith)
 pub loop-i-preserved : goal.loop-i-preserved
 loop-i-preserved c =
     let a = c.args in
-    (omega arith, omega arith, result-more _ (λ i. result-length _ _ _ _) _ _ c.loop-i.invariant.2 c.put_result.ensures (pair_same a.state.now a.b.now c.loop-i.i DR-MEM-RES-BLOCKED c.address-addr.ensures c.size-size.ensures))
+    (omega arith, result-more _ (λ i. result-length _ _ _ _) _ _ c.loop-i.invariant.1 c.put_result.ensures (pair_same a.state.now a.records.now.bytes.now c.loop-i.i DR-MEM-RES-BLOCKED c.pair-addr.ensures.0 c.pair-addr.ensures.1))
 
 pub returns : goal.returns
-returns c = let same : c.loop-i.i ≡ c.args.n = omega arith in c.loop-i.invariant.2 ∙ rw same
+returns c = let same : c.loop-i.i ≡ c.args.records.now.count = omega arith in c.loop-i.invariant.1 ∙ rw same
 
 pub loop-i-init : goal.loop-i-init
 unfolding joined
-loop-i-init c = (omega arith, refl, refl)
-
-pub shape_of-out : goal.shape_of-out
-unfolding joined
-shape_of-out c = c.loop-i.invariant.1
+loop-i-init c = (refl, refl)

@@ -1,5 +1,4 @@
 use mathlib.Core.Path.{◌≡◌}
-use Prim.Native.Nat.{◌≤◌, ◌-◌}
 use lib.ListN.{length}
 use lib.Seq.{sets}
 use Rattle.basics.specs.Choice.{joined}
@@ -8,7 +7,4 @@ use Rattle.model.specs.Memory.{DR-MEM-RES-BLOCKED, addr_in, result_record, size_
 use Rattle.memory.proofs.put_blocked.Given as goal
 
 abbrev pub invariant-loop-i : goal.invariant-loop-i
-invariant-loop-i l = (l.i ≤ l.n) × (length l.out ≡ length l.initial.out) × (l.out ≡ sets l.initial.out reply_header_bytes (joined (λ k. result_record l.state (addr_in l.b k) (size_in l.b k) DR-MEM-RES-BLOCKED) l.i))
-
-abbrev pub decreases-loop-i : goal.decreases-loop-i
-decreases-loop-i l = l.n - l.i
+invariant-loop-i l = (length l.out ≡ length l.initial.out) × (l.out ≡ sets l.initial.out reply_header_bytes (joined (λ k. result_record l.state (addr_in l.records.bytes.now k) (size_in l.records.bytes.now k) DR-MEM-RES-BLOCKED) l.i))

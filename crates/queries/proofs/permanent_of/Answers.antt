@@ -1,18 +1,18 @@
-use Rattle.std.proofs.Common.{sym, refl, ◌∙◌}
+use Rattle.std.proofs.Common.{sym, refl}
 use Rattle.model.proofs.Search.{sound-in-order}
 use Rattle.model.proofs.Sounds.{named-less}
 use Rattle.model.specs.Memory.{permanent_bytes, permanent_first}
 use Rattle.queries.proofs.permanent_of.Goals as goal
 
 pub permanent_at-requires : goal.permanent_at-requires
-permanent_at-requires c = (c.requires, named-less _ _ _ _ (sym c.named_block-found.ensures ∙ c.in-Some.is))
+permanent_at-requires c = (c.requires, named-less _ _ _ _ (sym c.in-Some.ensures))
 
 pub returns-in-Some : goal.returns-in-Some
-returns-in-Some c = rw (← c.named_block-found.ensures, c.in-Some.is) (c.permanent_at.ensures _ _)
+returns-in-Some c = rw (← c.in-Some.ensures) (c.permanent_at.ensures _ _)
 
 pub returns-in-None : goal.returns-in-None
 unfolding permanent_bytes permanent_first
-returns-in-None c = rw (← c.named_block-found.ensures, c.in-None.is) (record { bytes = refl; first = refl })
+returns-in-None c = rw (← c.in-None.ensures) (record { bytes = refl; first = refl })
 
-pub named_block-found-requires : goal.named_block-found-requires
-named_block-found-requires c = sound-in-order _ c.requires
+pub named_block-requires : goal.named_block-requires
+named_block-requires c = sound-in-order _ c.requires

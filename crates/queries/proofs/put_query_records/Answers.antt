@@ -19,20 +19,15 @@ loop-i-preserved c =
     let fits : at + query_bytes ≤ length l.out = omega arith in
     let span : at + query_bytes - at ≡ query_bytes = omega arith in (
       omega arith,
-      omega arith,
-      record-more _ query_bytes (λ i. query-length _ _ _) _ _ _ _ _ l.invariant.2
-          (c.put_query_record.ensures ∙ rw (c.address-addr.ensures, c.size-size.ensures)) span fits,
+      record-more _ query_bytes (λ i. query-length _ _ _) _ _ _ _ _ l.invariant.1
+          (c.put_query_record.ensures ∙ rw (c.pair-addr.ensures.0, c.pair-addr.ensures.1)) span fits,
     )
 
 pub returns : goal.returns
 returns c =
-    let same : c.loop-i.i ≡ c.args.n = omega arith in
-    c.loop-i.invariant.2 ∙ rw same
+    let same : c.loop-i.i ≡ c.args.records.now.count = omega arith in
+    c.loop-i.invariant.1 ∙ rw same
 
 pub loop-i-init : goal.loop-i-init
 unfolding joined
-loop-i-init c = (omega arith, refl, refl)
-
-pub shape_of-out : goal.shape_of-out
-unfolding joined
-shape_of-out c = c.loop-i.invariant.1
+loop-i-init c = (refl, refl)

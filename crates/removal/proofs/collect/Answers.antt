@@ -15,9 +15,9 @@ pub returns-then-collected_of-n : goal.returns-then-collected_of-n
 unfolding removal_of
 returns-then-collected_of-n c = collects-last _ _ c.requires.1 (omega (arith, c.collected_of.ensures, c.if-collected_of-n.true, c.pages_of-pages.ensures)) c.set_configured.ensures c.settle.ensures
 
-pub returns : goal.returns
+pub returns-else-collected_of-n : goal.returns-else-collected_of-n
 unfolding removal_of
-returns c = collects-some _ _ _ (λ e. c.if-collected_of-n.false (omega (arith, c.collected_of.ensures, c.pages_of-pages.ensures))) c.add_pages.ensures c.channel_of-channel.ensures c.collected.ensures
+returns-else-collected_of-n c = collects-some _ _ _ (λ e. c.if-collected_of-n.false (omega (arith, c.collected_of.ensures, c.pages_of-pages.ensures))) c.add_pages.ensures c.channel_of-channel.ensures c.collected.ensures
 
 pub overflow_add-collected_of : goal.overflow_add-collected_of
 unfolding removal_of

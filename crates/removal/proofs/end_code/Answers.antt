@@ -17,6 +17,6 @@ pub block_now-requires : goal.block_now-requires
 unfolding removal_of
 block_now-requires c = let p = c.requires in (p.blocks, omega (arith, p.records))
 
-pub returns : goal.returns
+pub returns-else-count_of-position_of : goal.returns-else-count_of-position_of
 unfolding removal_of
-returns c = let s = c.args.state.now in c.failing_code.ensures ∙ ap failing_code c.block_now.ensures ∙ sym (code-failing s (removal_of s) (cancelled-is s c.is_cancelled.ensures c.if-is_cancelled.false) (omega arith))
+returns-else-count_of-position_of c = let s = c.args.state.now in c.failing_code.ensures ∙ ap failing_code c.block_now.ensures ∙ sym (code-failing s (removal_of s) (cancelled-is s c.is_cancelled.ensures c.if-is_cancelled.false) (omega arith))

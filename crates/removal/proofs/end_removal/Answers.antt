@@ -6,5 +6,5 @@ use Rattle.removal.proofs.end_removal.Goals as goal
 pub returns-then-still_registered : goal.returns-then-still_registered
 returns-then-still_registered c = ends-replied _ _ _ (channel-is _ c.channel_of-channel.ensures) (request-is _ c.request_of-request.ensures) (sym c.still_registered.ensures ∙ c.if-still_registered.true) c.end_code-code.ensures c.put_late_reply-length.ensures c.removal_end.ensures c.clear_removal.ensures
 
-pub returns : goal.returns
-returns c = ends-silent _ _ _ (channel-is _ c.channel_of-channel.ensures) (request-is _ c.request_of-request.ensures) (sym c.still_registered.ensures ∙ c.if-still_registered.false) c.end_code-code.ensures c.removal_end-2.ensures c.clear_removal-2.ensures
+pub returns-else-still_registered : goal.returns-else-still_registered
+returns-else-still_registered c = ends-silent _ _ _ (channel-is _ c.channel_of-channel.ensures) (request-is _ c.request_of-request.ensures) (sym c.still_registered.ensures ∙ c.if-still_registered.false) c.end_code-code.ensures c.removal_end-else-still_registered.ensures c.clear_removal-else-still_registered.ensures

@@ -1,5 +1,4 @@
 use native.Mathlib.Omega.{arith}
-use Prim.Native.Nat.{◌-◌}
 use mathlib.Core.Path.{◌≡◌, refl, ◌∙◌}
 use Rattle.basics.specs.Choice.{joined}
 use Rattle.model.proofs.Replies.{result-length}
@@ -15,15 +14,11 @@ put_result-requires c = (omega arith, c.requires.0, omega arith)
 
 pub loop-i-preserved : goal.loop-i-preserved
 loop-i-preserved c =
-    (omega arith, omega arith, result-more _ (λ i. result-length _ _ _ _) _ _ c.loop-i.invariant.2 c.put_result.ensures (late-record c.args.state.now c.loop-i.i (omega arith) c.address_of-addr.ensures c.size_of-size.ensures c.result_at-result.ensures))
+    (omega arith, result-more _ (λ i. result-length _ _ _ _) _ _ c.loop-i.invariant.1 c.put_result.ensures (late-record c.args.state.now c.loop-i.i (omega arith) c.address_of-addr.ensures c.size_of-size.ensures c.result_at-result.ensures))
 
 pub returns : goal.returns
-returns c = let same : c.loop-i.i ≡ c.args.n = omega arith in c.loop-i.invariant.2 ∙ rw same
+returns c = let same : c.loop-i.i ≡ c.args.n = omega arith in c.loop-i.invariant.1 ∙ rw same
 
 pub loop-i-init : goal.loop-i-init
 unfolding joined
-loop-i-init c = (omega arith, refl, refl)
-
-pub shape_of-out : goal.shape_of-out
-unfolding joined
-shape_of-out c = c.loop-i.invariant.1
+loop-i-init c = (refl, refl)

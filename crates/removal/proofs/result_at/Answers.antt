@@ -10,5 +10,5 @@ returns-then-is_cancelled c = result-cancelled _ _ c.position_of-position.ensure
 pub returns-then-i-position-2 : goal.returns-then-i-position-2
 returns-then-i-position-2 c = result-failing _ _ c.position_of-position.ensures c.if-i-position.false c.is_cancelled.ensures c.if-is_cancelled.false c.if-i-position-2.true c.requires.1
 
-pub returns : goal.returns
-returns c = result-after _ _ c.position_of-position.ensures c.if-i-position.false c.is_cancelled.ensures c.if-is_cancelled.false c.if-i-position-2.false
+pub returns-else-i-position-2 : goal.returns-else-i-position-2
+returns-else-i-position-2 c = result-after _ _ c.position_of-position.ensures c.if-i-position.false c.is_cancelled.ensures c.if-is_cancelled.false c.if-i-position-2.false

@@ -5,13 +5,13 @@ use borrow.Author.Tests.{eq-eqb, ne_eqb}
 use Rattle.removal_state.proofs.Laws.{channel-is, handle-is}
 use Rattle.removal.proofs.still_registered.Goals as goal
 
-pub returns-then-stage_of-ne-REGISTERED : goal.returns-then-stage_of-ne-REGISTERED
+pub returns-else-stage_of-eq-REGISTERED : goal.returns-else-stage_of-eq-REGISTERED
 unfolding ◌and◌
-returns-then-stage_of-ne-REGISTERED c = rw (← channel-is _ c.channel_of.ensures, ← c.stage_of.ensures, ne_eqb _ _ c.if-stage_of-ne-REGISTERED.true)
+returns-else-stage_of-eq-REGISTERED c = rw (← channel-is _ c.channel_of.ensures, ← c.stage_of.ensures, ne_eqb _ _ c.if-stage_of-eq-REGISTERED.false)
 
-pub returns : goal.returns
+pub returns-then-stage_of-eq-REGISTERED : goal.returns-then-stage_of-eq-REGISTERED
 unfolding ◌and◌
-returns c = rw (← channel-is _ c.channel_of.ensures, ← handle-is _ c.handle_of-2.ensures, ← c.stage_of.ensures, ← c.handle_of.ensures, eq-eqb _ _ c.if-stage_of-ne-REGISTERED.false)
+returns-then-stage_of-eq-REGISTERED c = rw (← channel-is _ c.channel_of.ensures, ← handle-is _ c.handle_of-then-stage_of-eq-REGISTERED.ensures, ← c.stage_of.ensures, ← c.handle_of.ensures, eq-eqb _ _ c.if-stage_of-eq-REGISTERED.true)
 
 pub overflow_mul-k : goal.overflow_mul-k
 unfolding removal_of

@@ -11,5 +11,5 @@ returns-then-permanent_of-ne0 c = at-permanent _ _ _ _ _ (λ e. c.if-permanent_o
 pub work_on-requires : goal.work_on-requires
 work_on-requires c = let p = c.requires in (p.0.held, goes_on_lem _ _ p.0 p.1)
 
-pub returns : goal.returns
-returns c = at-movable _ _ _ _ _ (sym c.permanent_of.ensures ∙ c.if-permanent_of-ne0.false) refl c.work_on.ensures
+pub returns-else-permanent_of-ne0 : goal.returns-else-permanent_of-ne0
+returns-else-permanent_of-ne0 c = at-movable _ _ _ _ _ (sym c.permanent_of.ensures ∙ c.if-permanent_of-ne0.false) refl c.work_on.ensures

@@ -1,24 +1,51 @@
-use mathlib.Core.Path.{◌∙◌, sym}
-use mathlib.Core.Bool.{true, false}
-use Rattle.basics.specs.Choice.{pick}
-use Rattle.requests.proofs.Laws.{short-is, status-is, cancel-is}
+use native.Mathlib.Omega.{arith}
+use mathlib.Core.Path.{◌∙◌, sym, refl}
+use Rattle.basics.specs.Choice.{pick, ◌and◌}
+use Rattle.requests.proofs.Laws.{short-is, chosen-is, other-is}
 use Rattle.requests.proofs.decode.Goals as goal
-
-pub returns-then-has_nothing : goal.returns-then-has_nothing
-unfolding pick
-returns-then-has_nothing c = status-is _ c.if-b-lt-MEMORY_HEADER_BYTES.false _ c.get32-kind.ensures.0 c.if-kind-eq-DR_MEM_UNCONF_STATUS.true true (sym c.if-has_nothing.true ∙ c.has_nothing.ensures)
-
-pub returns-then-kind-eq-DR_MEM_UNCONF_STATUS : goal.returns-then-kind-eq-DR_MEM_UNCONF_STATUS
-unfolding pick
-returns-then-kind-eq-DR_MEM_UNCONF_STATUS c = status-is _ c.if-b-lt-MEMORY_HEADER_BYTES.false _ c.get32-kind.ensures.0 c.if-kind-eq-DR_MEM_UNCONF_STATUS.true false (sym c.if-has_nothing.false ∙ c.has_nothing.ensures)
-
-pub returns-then-has_nothing-2 : goal.returns-then-has_nothing-2
-unfolding pick
-returns-then-has_nothing-2 c = cancel-is _ c.if-b-lt-MEMORY_HEADER_BYTES.false _ c.get32-kind.ensures.0 c.if-kind-eq-DR_MEM_UNCONF_CANCEL.true true (sym c.if-has_nothing-2.true ∙ c.has_nothing-then-kind-eq-DR_MEM_UNCONF_CANCEL.ensures)
-
-pub returns-then-kind-eq-DR_MEM_UNCONF_CANCEL : goal.returns-then-kind-eq-DR_MEM_UNCONF_CANCEL
-unfolding pick
-returns-then-kind-eq-DR_MEM_UNCONF_CANCEL c = cancel-is _ c.if-b-lt-MEMORY_HEADER_BYTES.false _ c.get32-kind.ensures.0 c.if-kind-eq-DR_MEM_UNCONF_CANCEL.true false (sym c.if-has_nothing-2.false ∙ c.has_nothing-then-kind-eq-DR_MEM_UNCONF_CANCEL.ensures)
 
 pub returns-then-b-lt-MEMORY_HEADER_BYTES : goal.returns-then-b-lt-MEMORY_HEADER_BYTES
 returns-then-b-lt-MEMORY_HEADER_BYTES c = short-is _ c.if-b-lt-MEMORY_HEADER_BYTES.true
+
+pub returns-in-19779 : goal.returns-in-19779
+unfolding pick ◌and◌
+returns-in-19779 c = chosen-is _ c.if-b-lt-MEMORY_HEADER_BYTES.false (sym c.in-19779.is ∙ c.get32.ensures.0) c.get32-records.ensures.0 c.if-has_records.ensures refl
+
+pub returns-in_default : goal.returns-in_default
+unfolding pick ◌and◌
+returns-in_default c = chosen-is _ c.if-b-lt-MEMORY_HEADER_BYTES.false (sym c.in-19779.is ∙ c.get32.ensures.0) c.get32-records.ensures.0 c.if-has_records.ensures refl
+
+pub returns-in-19797 : goal.returns-in-19797
+unfolding pick ◌and◌
+returns-in-19797 c = chosen-is _ c.if-b-lt-MEMORY_HEADER_BYTES.false (sym c.in-19797.is ∙ c.get32.ensures.0) c.get32-records.ensures.0 c.if-has_records-2.ensures refl
+
+pub returns-in_default-2 : goal.returns-in_default-2
+unfolding pick ◌and◌
+returns-in_default-2 c = chosen-is _ c.if-b-lt-MEMORY_HEADER_BYTES.false (sym c.in-19797.is ∙ c.get32.ensures.0) c.get32-records.ensures.0 c.if-has_records-2.ensures refl
+
+pub returns-in-19793 : goal.returns-in-19793
+unfolding pick ◌and◌
+returns-in-19793 c = chosen-is _ c.if-b-lt-MEMORY_HEADER_BYTES.false (sym c.in-19793.is ∙ c.get32.ensures.0) c.get32-records.ensures.0 c.if-has_records-3.ensures refl
+
+pub returns-in_default-3 : goal.returns-in_default-3
+unfolding pick ◌and◌
+returns-in_default-3 c = chosen-is _ c.if-b-lt-MEMORY_HEADER_BYTES.false (sym c.in-19793.is ∙ c.get32.ensures.0) c.get32-records.ensures.0 c.if-has_records-3.ensures refl
+
+pub returns-in-19795 : goal.returns-in-19795
+unfolding pick ◌and◌
+returns-in-19795 c = chosen-is _ c.if-b-lt-MEMORY_HEADER_BYTES.false (sym c.in-19795.is ∙ c.get32.ensures.0) c.get32-records.ensures.0 refl c.if-has_nothing.ensures
+
+pub returns-in_default-4 : goal.returns-in_default-4
+unfolding pick ◌and◌
+returns-in_default-4 c = chosen-is _ c.if-b-lt-MEMORY_HEADER_BYTES.false (sym c.in-19795.is ∙ c.get32.ensures.0) c.get32-records.ensures.0 refl c.if-has_nothing.ensures
+
+pub returns-in-19790 : goal.returns-in-19790
+unfolding pick ◌and◌
+returns-in-19790 c = chosen-is _ c.if-b-lt-MEMORY_HEADER_BYTES.false (sym c.in-19790.is ∙ c.get32.ensures.0) c.get32-records.ensures.0 refl c.if-has_nothing-2.ensures
+
+pub returns-in_default-5 : goal.returns-in_default-5
+unfolding pick ◌and◌
+returns-in_default-5 c = chosen-is _ c.if-b-lt-MEMORY_HEADER_BYTES.false (sym c.in-19790.is ∙ c.get32.ensures.0) c.get32-records.ensures.0 refl c.if-has_nothing-2.ensures
+
+pub returns-in_default-6 : goal.returns-in_default-6
+returns-in_default-6 c = other-is _ c.if-b-lt-MEMORY_HEADER_BYTES.false c.get32.ensures.0 c.get32-records.ensures.0 (omega arith, omega arith, omega arith, omega arith, omega arith)

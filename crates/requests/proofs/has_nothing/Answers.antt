@@ -1,12 +1,13 @@
-use borrow.Author.Tests.{ne_eqb}
 use Rattle.basics.specs.Choice.{◌and◌}
 use Rattle.model.specs.Memory.{has_nothing}
 use Rattle.requests.proofs.has_nothing.Goals as goal
+use native.Mathlib.Omega.{arith}
+use Rattle.std.proofs.lemmas.Grind.{common_steps}
 
-pub returns-then-get32-ne0 : goal.returns-then-get32-ne0
+pub returns-then-get32-eq0 : goal.returns-then-get32-eq0
 unfolding has_nothing ◌and◌
-returns-then-get32-ne0 c = rw (← c.before.get32.ensures.0, ne_eqb _ _ c.if-get32-ne0.true)
+returns-then-get32-eq0 c = grind (arith, common_steps)
 
-pub returns : goal.returns
+pub returns-else-get32-eq0 : goal.returns-else-get32-eq0
 unfolding has_nothing ◌and◌
-returns c = rw (← c.before.get32.ensures.0, c.if-get32-ne0.false)
+returns-else-get32-eq0 c = grind (arith, common_steps)

@@ -1,12 +1,13 @@
-use borrow.Author.Tests.{lt-ltb, le-ltb}
 use Rattle.basics.specs.Choice.{pick}
 use Rattle.model.specs.Memory.{request_number}
 use Rattle.requests.proofs.number.Goals as goal
+use native.Mathlib.Omega.{arith}
+use Rattle.std.proofs.lemmas.Grind.{common_steps}
 
 pub returns-then-b-lt-MEMORY_HEADER_BYTES : goal.returns-then-b-lt-MEMORY_HEADER_BYTES
 unfolding request_number pick
-returns-then-b-lt-MEMORY_HEADER_BYTES c = rw (lt-ltb _ _ c.if-b-lt-MEMORY_HEADER_BYTES.true)
+returns-then-b-lt-MEMORY_HEADER_BYTES c = grind (arith, common_steps)
 
-pub returns : goal.returns
+pub returns-else-b-lt-MEMORY_HEADER_BYTES : goal.returns-else-b-lt-MEMORY_HEADER_BYTES
 unfolding request_number pick
-returns c = rw (le-ltb _ _ c.before.if-b-lt-MEMORY_HEADER_BYTES.false) c.get64.ensures
+returns-else-b-lt-MEMORY_HEADER_BYTES c = grind (arith, common_steps)
