@@ -11,6 +11,7 @@ use std::io::Write;
 const TEXT_BYTES: usize = 2 * LINE_BYTES;
 
 // The lines gathered, at the start of the text.
+#[derive(Drop)]
 pub struct Lines {
     text: [u8; TEXT_BYTES],
     used: usize,
