@@ -5,8 +5,5 @@ use lib.ListN.{length}
 use mathlib.Core.Path.{◌≡◌}
 use Rattle.reader.proofs.input.fill.Given as goal
 
-abbrev pub invariant-loop-tries : goal.invariant-loop-tries
-invariant-loop-tries l = (l.count ≤ length l.input) × (length l.input ≡ length l.initial.input)
-
-abbrev pub decreases-loop-tries : goal.decreases-loop-tries
-decreases-loop-tries l = l.tries
+abbrev pub invariant-loop : goal.invariant-loop
+invariant-loop l = (l.count ≤ length l.input) × (length l.input ≡ length l.initial.input)
