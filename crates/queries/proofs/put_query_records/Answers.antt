@@ -23,11 +23,6 @@ loop-i-preserved c =
           (c.put_query_record.ensures ∙ rw (c.pair-addr.ensures.0, c.pair-addr.ensures.1)) span fits,
     )
 
-pub returns : goal.returns
-returns c =
-    let same : c.loop-i.i ≡ c.args.records.now.count = omega arith in
-    c.loop-i.invariant.1 ∙ rw same
-
 pub loop-i-init : goal.loop-i-init
 unfolding joined
 loop-i-init c = (refl, refl)

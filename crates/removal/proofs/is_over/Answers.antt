@@ -4,7 +4,7 @@ use Rattle.removal.proofs.is_over.Goals as goal
 
 pub returns-then-is_cancelled : goal.returns-then-is_cancelled
 unfolding ◌or◌
-returns-then-is_cancelled c = rw (cancelled-is _ c.is_cancelled.ensures c.if-is_cancelled.true) c.if-is_cancelled.true
+returns-then-is_cancelled c = rw (cancelled-is c.args.state.now c.is_cancelled.ensures c.if-is_cancelled.true) c.if-is_cancelled.true
 
 pub returns-else-is_cancelled : goal.returns-else-is_cancelled
 unfolding ◌or◌
