@@ -12,14 +12,6 @@ register_peer-requires c =
 pub payload-requires : goal.payload-requires
 payload-requires c = data-there _ _ (sym c.requires.3 ∙ c.in-Data.is)
 
-pub returns-in-InitReq : goal.returns-in-InitReq
-unfolding heard
-returns-in-InitReq c = rw c.in-InitReq.is c.initiate.ensures
-
-pub returns-in-RegReq : goal.returns-in-RegReq
-unfolding heard
-returns-in-RegReq c = rw c.in-RegReq.is c.register_peer.ensures
-
 pub returns-in-RegAck : goal.returns-in-RegAck
 unfolding heard
 returns-in-RegAck c = rw c.in-RegAck.is (silent-handles _ c.acknowledge.ensures)
@@ -28,10 +20,6 @@ pub returns-in-RegNack : goal.returns-in-RegNack
 unfolding heard
 returns-in-RegNack c = rw c.in-RegNack.is (silent-handles _ c.not_acknowledge.ensures)
 
-pub returns-in-Unreg : goal.returns-in-Unreg
-unfolding heard
-returns-in-Unreg c = rw c.in-Unreg.is c.unregister.ensures
-
 pub returns-in-UnregAck : goal.returns-in-UnregAck
 unfolding heard
 returns-in-UnregAck c = rw c.in-UnregAck.is (silent-handles _ c.only_noted.ensures)
@@ -39,12 +27,6 @@ returns-in-UnregAck c = rw c.in-UnregAck.is (silent-handles _ c.only_noted.ensur
 pub returns-in-UnregNack : goal.returns-in-UnregNack
 unfolding heard
 returns-in-UnregNack c = rw c.in-UnregNack.is (silent-handles _ c.only_noted-in-UnregNack.ensures)
-
-pub returns-in-Data : goal.returns-in-Data
-unfolding heard
-returns-in-Data c =
-    rw (c.in-Data.is, ← c.payload.ensures)
-    c.take_data.ensures
 
 pub returns-in-Nack : goal.returns-in-Nack
 unfolding heard
