@@ -1,4 +1,5 @@
 pub mod Fields
 pub mod Forms
 pub mod Input
+pub mod Output
 pub mod Search

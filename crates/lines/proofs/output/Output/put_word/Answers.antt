@@ -1,11 +1,11 @@
--- `lines::form::put_word` meets its contract: a number of 64 bits has 16 digits.
+-- `lines::output::Output::put_word` meets its contract: a number of 64 bits has 16 digits.
 -- Assumes nothing.
 use Rattle.std.proofs.Common.{◌≡◌, ℕ, ap, ◌∙◌, arith, length-take}
 use Rattle.io.specs.Digits.{last_digits}
 use Rattle.lines.specs.Forms.{word_places}
 use Rattle.lines.proofs.Puts.{fewest-word, puts-same, puts-within}
 use native.Mathlib.Omega.{arith}
-use Rattle.lines.proofs.form.put_word.Goals as goal
+use Rattle.lines.proofs.output.Output.put_word.Goals as goal
 
 pub put-requires : goal.put-requires
 put-requires c =

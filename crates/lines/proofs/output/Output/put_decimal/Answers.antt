@@ -1,10 +1,10 @@
--- `lines::form::put_decimal` meets its contract: the fewest digits are the number in decimal.
+-- `lines::output::Output::put_decimal` meets its contract: the fewest digits are the number in decimal.
 -- Assumes nothing.
 use Rattle.std.proofs.Common.{◌≤◌, arith, length-take}
 use Rattle.lines.specs.Forms.{decimal_places}
 use Rattle.lines.proofs.Puts.{fewest-short, puts-decimal, puts-within}
 use native.Mathlib.Omega.{arith}
-use Rattle.lines.proofs.form.put_decimal.Goals as goal
+use Rattle.lines.proofs.output.Output.put_decimal.Goals as goal
 
 pub put-requires : goal.put-requires
 put-requires c =
