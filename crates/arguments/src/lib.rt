@@ -4,9 +4,8 @@
 
 ghost use Rattle.std.specs.Prelude.{◌≤◌, IfSome, length};
 
-use lines::fields::Number;
-use lines::outcome::tell;
-use lines::{fields, outcome};
+use lines::fields;
+use lines::outcome::{Outcome, tell};
 use std::env::{Env, FillError};
 use std::fmt::InlineText;
 use std::fs::{Files, OpenOptions};
@@ -28,42 +27,34 @@ pub struct Options {
     pub own: bool,
     // The arguments are none that the program takes.
     pub wrong: bool,
-    // The descriptor, or below 0.
-    pub status_fd: i32,
+    // The descriptor, if one is given.
+    pub status_fd: Option<i32>,
     // The descriptor's number comes next.
     awaits_number: bool,
 }
 
-// The number that comes after `--status-fd`.
-fn with_number(options: Options, word: &[u8]) -> Options {
-    let mut next = options;
-    next.awaits_number = false;
-    next.wrong = true;
-    if let Number::Value(n) = fields::number_in(word) {
-        if n <= MOST_DESCRIPTOR {
-            next.status_fd = n as i32;
-            next.wrong = options.wrong;
+impl Options {
+    // The number that comes after `--status-fd`.
+    fn take_number(&mut self, word: &[u8]) {
+        self.awaits_number = false;
+        match fields::number_in(word) {
+            Some(n) if n <= MOST_DESCRIPTOR => self.status_fd = Some(n as i32),
+            _ => self.wrong = true,
         }
     }
-    next
-}
 
-// One argument more.
-fn with_argument(options: Options, own: &[u8], word: &[u8]) -> Options {
-    let mut next = options;
-    if options.awaits_number {
-        return with_number(options, word);
+    // One argument more.
+    fn take(&mut self, own: &[u8], word: &[u8]) {
+        if self.awaits_number {
+            self.take_number(word);
+        } else if word == b"--status-fd".as_slice() {
+            self.awaits_number = true;
+        } else if word.len() != 0 && word == own {
+            self.own = true;
+        } else {
+            self.wrong = true;
+        }
     }
-    if fields::same(word, b"--status-fd") {
-        next.awaits_number = true;
-        return next;
-    }
-    if word.len() != 0 && fields::same(word, own) {
-        next.own = true;
-        return next;
-    }
-    next.wrong = true;
-    next
 }
 
 // How many bytes an argument has, which are put at the start of a run; none where there is no such argument. One that is
@@ -83,7 +74,7 @@ pub fn read<R: Env>(rt: &R, own: &[u8]) -> Options {
     let mut options = Options {
         own: false,
         wrong: false,
-        status_fd: -1,
+        status_fd: None,
         awaits_number: false,
     };
     for i in 1..usize::MAX {
@@ -91,7 +82,7 @@ pub fn read<R: Env>(rt: &R, own: &[u8]) -> Options {
         let Some(length) = word_at(rt, i, &mut word) else {
             break;
         };
-        options = with_argument(options, own, &word[..length]);
+        options.take(own, &word[..length]);
     }
     options.wrong = options.wrong || options.awaits_number;
     options
@@ -118,11 +109,11 @@ fn write_to(rt: HostRuntime, descriptor: i32, byte: u8) -> io::Result<()> {
 }
 
 // Reports how the program ended, where it was given a descriptor for that.
-pub fn report(rt: HostRuntime, options: Options, outcome: u8) {
-    if options.status_fd < 0 {
+pub fn report(rt: HostRuntime, options: Options, outcome: Outcome) {
+    let Some(descriptor) = options.status_fd else {
         return;
-    }
-    if write_to(rt, options.status_fd, outcome).is_err() {
+    };
+    if write_to(rt, descriptor, outcome.byte()).is_err() {
         tell(rt.stderr(), b"the outcome cannot be reported\n");
     }
 }
@@ -130,5 +121,5 @@ pub fn report(rt: HostRuntime, options: Options, outcome: u8) {
 // The answer to arguments that the program does not take.
 pub fn usage(rt: HostRuntime, options: Options, text: &[u8]) {
     tell(rt.stderr(), text);
-    report(rt, options, outcome::FAILED);
+    report(rt, options, Outcome::Failed);
 }

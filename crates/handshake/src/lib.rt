@@ -16,41 +16,40 @@ use vio_model::{
 };
 
 // The refusals: a list that is not accepted, and words that are no sound end.
+// Numbers and no enum: Ready and Answer are repr(C), and each refusal is made at its place and looked at by none here.
 const BAD_LIST: u64 = 7;
 
 const NOT_SOUND: u64 = 8;
 
 // An end of these classes and of the versions of an accepted list.
+#[tactic(auto, unfolding(vio_model::specs::Calls::new_end, vio_model::specs::Calls::blank_end))]
 fn new_end(class: u8, accepts: u8, list: &[u64]) -> End
     requires { first_version_word + length list.now ≤ end_words }
     ensures { result ≡ new_end class accepts list.now }
 {
     let mut end = [0u64; END_WORDS];
-    end[CLASS] = class as u64;
-    end[ACCEPTS] = accepts as u64;
+    end[CLASS] = u64::from(class);
+    end[ACCEPTS] = u64::from(accepts);
     end[COUNT] = (list.len() / VERSION_WORDS) as u64;
-    let mut i: usize = 0;
-    while i < list.len() {
-        end[FIRST_VERSION + i] = list[i];
-        i += 1;
-    }
+    end[FIRST_VERSION..FIRST_VERSION + list.len()].copy_from_slice(list);
     end
 }
 
 // Takes an end's class, the class that it accepts and the versions that it holds, two words each: 0 and the end, or 7.
+#[tactic(auto, using(crate::proofs::Laws::calls), unfolding(vio_model::specs::Calls::ready))]
 pub fn setup(class: u8, accepts: u8, list: &[u64]) -> Ready
     ensures { SetupPost class accepts list.now result }
 {
-    if !vio_versions::accepted_list(list) {
-        return Ready {
+    if vio_versions::accepted_list(list) {
+        Ready {
+            refusal: 0,
+            end: new_end(class, accepts, list),
+        }
+    } else {
+        Ready {
             refusal: BAD_LIST,
             end: [0u64; END_WORDS],
-        };
-    }
-    let end = new_end(class, accepts, list);
-    Ready {
-        refusal: 0,
-        end: end,
+        }
     }
 }
 
@@ -64,6 +63,7 @@ fn set_words(end: &mut [u64], stage: u64, id: u64, major: u64, minor: u64)
     end[MINOR] = minor;
 }
 
+#[tactic(auto, unfolding(vio_model::specs::Layout::with_session, vio_model::specs::Layout::session_words))]
 fn set_session(end: &mut [u64], session: Session)
     requires { length end.old ≡ end_words }
     ensures { end.new ≡ with_session end.old session }
@@ -81,7 +81,7 @@ fn silent(refusal: u64) -> Answer
     ensures { result ≡ record { refusal = refusal; count = 0; first = 0; second = 0 } }
 {
     Answer {
-        refusal: refusal,
+        refusal,
         count: 0,
         first: 0,
         second: 0,
@@ -89,6 +89,7 @@ fn silent(refusal: u64) -> Answer
 }
 
 // The effect on a sound end, and the answer.
+#[tactic(auto, using(crate::proofs::Laws::calls), unfolding(vio_model::specs::Calls::accepted))]
 fn accepted(end: &mut [u64], effect: Effect) -> Answer
     requires { (length end.old ≡ end_words) × Fits effect }
     ensures { outcome_of result end.new ≡ accepted end.old effect }
@@ -112,18 +113,21 @@ fn accepted(end: &mut [u64], effect: Effect) -> Answer
     }
 }
 
-// Starts a handshake under a session id: the request for the highest major. Words that are no sound end are refused by 8.
+// Starts a handshake under a session id: the request for the highest major. Words that are no sound end are refused
+// by 8.
+#[tactic(auto, using(crate::proofs::Laws::calls), unfolding(vio_model::specs::Calls::started))]
 pub fn start(end: &mut [u64], id: u32) -> Answer
     ensures { StartPost end.old id result end.new }
 {
     if !vio_versions::sound(end) {
         return silent(NOT_SOUND);
     }
-    let effect = vio_rules::asking(end, id as u64, VERSION_LIMIT);
+    let effect = vio_rules::asking(end, u64::from(id), VERSION_LIMIT);
     accepted(end, effect)
 }
 
 // Receives the two words of a message; `next` is the session id of the request that it may send next.
+#[tactic(auto, using(crate::proofs::Laws::calls), unfolding(vio_model::specs::Calls::received))]
 pub fn receive(end: &mut [u64], next: u32, first: u64, second: u64) -> Answer
     ensures { ReceivePost end.old next first second result end.new }
 {
@@ -131,6 +135,6 @@ pub fn receive(end: &mut [u64], next: u32, first: u64, second: u64) -> Answer
         return silent(NOT_SOUND);
     }
     let m = vio_message::unpack(Words { first, second });
-    let effect = vio_rules::heard(end, next as u64, m);
+    let effect = vio_rules::heard(end, u64::from(next), m);
     accepted(end, effect)
 }

@@ -1,14 +1,13 @@
 -- Bytes pair by pair.
 -- Assumes nothing.
-use Rattle.std.proofs.Common.{◌≡◌, ℕ, suc, ◌+◌, ◌/◌, ◌%◌, ◌<◌, ◌≤◌, true, false, ltb, leb, List, ◌++◌, length, get_or, drop, set, sym, ap, ◌∙◌, add-one, arith, drop-cons, ltb-true, le-ltb, lt-ltb, eq-eqb, ne_eqb, le-leb}
+use Rattle.std.proofs.Common.{◌≡◌, ℕ, suc, ◌+◌, ◌*◌, ◌/◌, ◌%◌, ◌<◌, ◌≤◌, true, false, ltb, leb, List, ◌++◌, length, get_or, drop, set, sym, ap, ◌∙◌, add-one, arith, drop-cons, ltb-true, le-ltb, lt-ltb, eq-eqb, ne_eqb, le-leb, Some, None}
+use Rattle.std.specs.Char.{digit_value}
 use lib.Seq.{set_at, append_snoc}
 use borrow.Author.Tests.{lt-leb}
 use Rattle.basics.specs.Choice.{◌and◌, every, tabulate}
 use Rattle.basics.proofs.Choice.{clash, pick_true, pick-false, both, join, and-false, and-false-right, tabulate-length}
 use Rattle.basics.proofs.Loops.{every-fails}
-use Rattle.lines.specs.Fields.{digit_of, pair_of, are_pair, pair_in, byte_of, is_byte, are_bytes, bytes_in, BytesRead}
-use Rattle.lines.specs.declared.fields.Number.TheVariants.{Value, Bad}
-use Rattle.lines.specs.declared.fields.Read.TheVariants.{Count, Bad as BadBytes}
+use Rattle.lines.specs.Fields.{pair_of, are_pair, pair_in, byte_of, is_byte, are_bytes, bytes_in, BytesRead}
 use Rattle.lines.proofs.Numbers.{value-of, bad-of}
 
 -- a run whose first i elements are f's values: one more
@@ -21,53 +20,61 @@ table_more f l i h =
     ∙ ap (λ n. tabulate f n ++ drop n l) (sym (add-one i))
 
 -- the answers of pair
-pub no-high : (high low : ℕ) → 16 ≤ digit_of high → Bad ≡ pair_in high low
+pub no-high : (high low c : ℕ) → c ≡ high → (digit_value c < 16 → ⊥) → None ≡ pair_in high low
 unfolding pair_in are_pair
-no-high high low h = sym (pick-false _ _ _ (and-false _ _ (le-ltb (digit_of high) 16 h)))
+no-high high low c e h = sym (pick-false _ _ _ (and-false _ _ (le-ltb (digit_value high) 16 (rw (← e) (omega (arith, h))))))
 
-pub no-low : (high low : ℕ) → 16 ≤ digit_of low → Bad ≡ pair_in high low
+pub no-low : (high low c : ℕ) → c ≡ low → (digit_value c < 16 → ⊥) → None ≡ pair_in high low
 unfolding pair_in are_pair
-no-low high low h = sym (pick-false _ _ _ (and-false-right _ _ (le-ltb (digit_of low) 16 h)))
+no-low high low c e h = sym (pick-false _ _ _ (and-false-right _ _ (le-ltb (digit_value low) 16 (rw (← e) (omega (arith, h))))))
 
-pub both-digits : (high low : ℕ) → digit_of high < 16 → digit_of low < 16 → Value (pair_of high low) ≡ pair_in high low
+pub both-digits : (high low : ℕ) → digit_value high < 16 → digit_value low < 16 → Some (pair_of high low) ≡ pair_in high low
 unfolding pair_in are_pair
-both-digits high low h l = sym (pick_true _ _ _ (join _ _ (lt-ltb (digit_of high) 16 h) (lt-ltb (digit_of low) 16 l)))
+both-digits high low h l = sym (pick_true _ _ _ (join _ _ (lt-ltb (digit_value high) 16 h) (lt-ltb (digit_value low) 16 l)))
+
+-- as the digits were found
+pub two_digits : (high low c d : ℕ) {h l : ℕ} → c ≡ high → d ≡ low → (digit_value c < 16) × (h ≡ digit_value c) → (digit_value d < 16) × (l ≡ digit_value d) → Some (h * 16 + l) ≡ pair_in high low
+unfolding pair_of
+two_digits high low c d e f p q =
+    let h = rw e at p in
+    let l = rw f at q in
+    rw (h.1, l.1) (both-digits high low h.0 l.0)
 
 -- taken apart
-pub no-pair : (high low : ℕ) → pair_in high low ≡ Bad → are_pair high low ≡ false
+pub no-pair : (high low : ℕ) → pair_in high low ≡ None → are_pair high low ≡ false
 unfolding pair_in
 no-pair high low e = bad-of (are_pair high low) (pair_of high low) e
 
-pub a_pair : (high low v : ℕ) → pair_in high low ≡ Value v → (are_pair high low ≡ true) × (v ≡ pair_of high low) × (v < 256)
+pub a_pair : (high low v : ℕ) → pair_in high low ≡ Some v → (are_pair high low ≡ true) × (v ≡ pair_of high low) × (v < 256)
 unfolding pair_in are_pair pair_of
 a_pair high low v e =
     let q = value-of (are_pair high low) (pair_of high low) v e in
-    let t = both (ltb (digit_of high) 16) (ltb (digit_of low) 16) q.0 in
-    (q.0, q.1, omega (arith, q.1, ltb-true (digit_of high) 16 t.0, ltb-true (digit_of low) 16 t.1))
+    let t = both (ltb (digit_value high) 16) (ltb (digit_value low) 16) q.0 in
+    (q.0, q.1, omega (arith, q.1, ltb-true (digit_value high) 16 t.0, ltb-true (digit_value low) 16 t.1))
 
 -- the field's digits are not read
-unread : (field into into' : List ℕ) → (are_bytes field and leb (length field / 2) (length into)) ≡ false → BytesRead field into BadBytes into'
+unread : (field into into' : List ℕ) → (are_bytes field and leb (length field / 2) (length into)) ≡ false → BytesRead field into None into'
 unfolding BytesRead bytes_in
 unread field into into' e = (sym (pick-false _ _ _ e), λ t. absurd (clash _ e t))
 
-pub none-to-read : (field into into' : List ℕ) → length field ≡ 0 → BytesRead field into BadBytes into'
+pub none-to-read : (field into into' : List ℕ) → length field ≡ 0 → BytesRead field into None into'
 none-to-read field into into' e =
     unread field into into' (and-false _ _ (unfold are_bytes in and-false _ _ (le-ltb 0 (length field) (omega (arith, e)))))
 
-pub odd-to-read : (field into into' : List ℕ) → (length field % 2 ≡ 0 → ⊥) → BytesRead field into BadBytes into'
+pub odd-to-read : (field into into' : List ℕ) → (length field % 2 ≡ 0 → ⊥) → BytesRead field into None into'
 odd-to-read field into into' h =
     unread field into into' (and-false _ _ (unfold are_bytes in and-false-right _ _ (and-false _ _ (ne_eqb (length field % 2) 0 h))))
 
-pub no_room : (field into into' : List ℕ) → length into < length field / 2 → BytesRead field into BadBytes into'
+pub no_room : (field into into' : List ℕ) → length into < length field / 2 → BytesRead field into None into'
 no_room field into into' h = unread field into into' (and-false-right _ _ (lt-leb (length field / 2) (length into) h))
 
-pub bad-pair : (field into into' : List ℕ) (i : ℕ) → i < length field / 2 → is_byte field i ≡ false → BytesRead field into BadBytes into'
+pub bad-pair : (field into into' : List ℕ) (i : ℕ) → i < length field / 2 → is_byte field i ≡ false → BytesRead field into None into'
 bad-pair field into into' i h e =
     unread field into into'
     (and-false _ _ (unfold are_bytes in and-false-right _ _ (and-false-right _ _ (sym (every-fails (λ k. is_byte field k) (length field / 2) i h e)))))
 
 -- all are read
-pub all_read : (field into into' : List ℕ) (i : ℕ) → (length field ≡ 0 → ⊥) → length field % 2 ≡ 0 → length field / 2 ≤ length into → i ≡ length field / 2 → every i (λ k. is_byte field k) ≡ true → into' ≡ tabulate (λ k. byte_of field k) i ++ drop i into → BytesRead field into (Count (length field / 2)) into'
+pub all_read : (field into into' : List ℕ) (i : ℕ) → (length field ≡ 0 → ⊥) → length field % 2 ≡ 0 → length field / 2 ≤ length into → i ≡ length field / 2 → every i (λ k. is_byte field k) ≡ true → into' ≡ tabulate (λ k. byte_of field k) i ++ drop i into → BytesRead field into (Some (length field / 2)) into'
 unfolding BytesRead bytes_in
 all_read field into into' i n e h q d t =
     (sym (pick_true _ _ _ (join _ _ good (le-leb (length field / 2) (length into) h))), λ _. t ∙ ap (λ k. tabulate (λ j. byte_of field j) k ++ drop k into) q)

@@ -1,7 +1,6 @@
 -- Laws that several proofs cite.
 -- Assumes nothing.
 mod Counted
-mod Digits
 mod Numbers
 mod Bytes
 mod Puts

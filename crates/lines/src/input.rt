@@ -18,17 +18,27 @@ pub const INPUT_BYTES: usize = LONGEST + 1 + READ_BYTES;
 
 pub type Input = [u8; INPUT_BYTES];
 
+// Where the input is.
+#[derive(Clone, Copy, PartialEq, Eq)]
+pub enum Stage {
+    // More may be read.
+    Open,
+    // The last read came to its end.
+    Ended,
+    // The last line was handed out.
+    Done,
+    // The last read failed.
+    Failed,
+}
+
 // Where the bytes are read from. Those from `start` to `end` of the buffer have not been handed out; `lines` lines have.
-// `ended` and `failed` say how the last read went; `done`, that the last line was handed out.
 #[derive(Clone, Copy)]
 pub struct Held {
     pub from: Stdin,
     pub start: usize,
     pub end: usize,
     pub lines: u64,
-    pub ended: bool,
-    pub failed: bool,
-    pub done: bool,
+    pub stage: Stage,
 }
 
 // Before the first read.
@@ -36,13 +46,11 @@ pub fn none(from: Stdin) -> Held
     ensures { Holds result }
 {
     Held {
-        from: from,
+        from,
         start: 0,
         end: 0,
         lines: 0,
-        ended: false,
-        failed: false,
-        done: false,
+        stage: Stage::Open,
     }
 }
 
@@ -51,14 +59,12 @@ pub fn line_end(input: &[u8], held: Held) -> usize
     requires { Holds held × (length input.now ≡ input_bytes) }
     ensures { (held.start ≤ result) × (result ≤ held.end) }
 {
-    let start = held.start;
-    let end = held.end;
-    find(input, start, end, b'\n')
+    find(input, held.start, held.end, b'\n')
 }
 
 // The line up to `stop` is whole: its line end is there, or the input has ended.
 pub fn is_whole(held: Held, stop: usize) -> bool {
-    stop < held.end || held.ended
+    stop < held.end || held.stage == Stage::Ended
 }
 
 // What is held after the line up to `stop`, with its line end.
@@ -67,58 +73,14 @@ pub fn after_line(held: Held, stop: usize) -> Held
     ensures { Holds result }
 {
     let mut next = held;
-    next.lines = std::num::wrapping_add_u64(held.lines, 1);
+    next.lines = held.lines.wrapping_add(1);
     if stop < held.end {
         next.start = stop + 1;
         return next;
     }
     next.start = stop;
-    next.done = true;
+    next.stage = Stage::Done;
     next
-}
-
-fn lesser(a: usize, b: usize) -> usize
-    ensures { (result ≤ a) × (result ≤ b) }
-{
-    if a < b {
-        return a;
-    }
-    b
-}
-
-// Moves `count` bytes to the front.
-fn move_front(input: &mut [u8], from: usize, count: usize)
-    requires { from + count ≤ length input.old }
-{
-    let mut i: usize = 0;
-    while i < count {
-        input[i] = input[from + i];
-        i += 1;
-    }
-}
-
-// The bytes that a read put at the start of a run, and how it went: none at the end of the input, and where it failed.
-#[derive(Clone, Copy)]
-struct Got {
-    count: usize,
-    failed: bool,
-}
-
-// One read.
-fn read_once(from: Stdin, into: &mut [u8]) -> Got
-    ensures { result.count ≤ length into.new }
-{
-    let mut source = from;
-    match source.read(into) {
-        Ok(count) => Got {
-            count: count,
-            failed: false,
-        },
-        Err(_) => Got {
-            count: 0,
-            failed: true,
-        },
-    }
 }
 
 // Reads more behind the unfinished line, which goes to the front.
@@ -126,18 +88,20 @@ pub fn refill(input: &mut [u8], held: Held) -> Held
     requires { Holds held × (length input.old ≡ input_bytes) }
     ensures { Holds result }
 {
-    let kept = lesser(held.end - held.start, LONGEST + 1);
-    move_front(input, held.start, kept);
-    let limit = kept + READ_BYTES;
-    let got = read_once(held.from, &mut input[kept..limit]);
+    let kept = (held.end - held.start).min(LONGEST + 1);
+    input.copy_within(held.start..held.start + kept, 0);
+    let mut source = held.from;
+    let (count, stage) = match source.read(&mut input[kept..kept + READ_BYTES]) {
+        Ok(0) => (0, Stage::Ended),
+        Ok(count) => (count, Stage::Open),
+        Err(_) => (0, Stage::Failed),
+    };
     Held {
         from: held.from,
         start: 0,
-        end: kept + got.count,
+        end: kept + count,
         lines: held.lines,
-        ended: got.count == 0 && !got.failed,
-        failed: got.failed,
-        done: false,
+        stage,
     }
 }
 

@@ -5,7 +5,7 @@
 pub mod fields;
 pub mod form;
 pub mod input;
+pub mod list;
 pub mod outcome;
 pub mod output;
-pub mod parts;
 mod scan;

@@ -10,12 +10,10 @@ pub(crate) fn find(run: &[u8], from: usize, end: usize, b: u8) -> usize
     ensures lower_bound { from ≤ result }
     ensures upper_bound { result ≤ end }
 {
-    let mut i = from;
-    while i < end {
+    for i in from..end {
         if run[i] == b {
             return i;
         }
-        i += 1;
     }
     end
 }

@@ -1,4 +1,4 @@
 -- Laws that the proofs of this crate's functions share.
 -- Assumes nothing.
 pub mod Turns
-pub mod Sessions
+pub mod Tests

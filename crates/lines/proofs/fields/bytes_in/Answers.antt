@@ -1,4 +1,4 @@
-use Rattle.std.proofs.Common.{◌≡◌, ◌%◌, ◌++◌, drop, set, sym, refl, ap, ◌∙◌, arith, length-set}
+use Rattle.std.proofs.Common.{◌++◌, drop, set, sym, refl, ap, ◌∙◌, arith, length-set}
 use Rattle.basics.specs.Choice.{tabulate}
 use Rattle.basics.proofs.Loops.{every-none, every_more}
 use Rattle.lines.specs.Fields.{byte_of}
@@ -17,35 +17,26 @@ returns-then-into-count c = no_room _ _ _ c.if-into-count.true
 
 pub loop-i-init : goal.loop-i-init
 unfolding tabulate
-loop-i-init c = (omega arith, refl, every-none _, refl)
-
-pub shape_of-into-in_default : goal.shape_of-into-in_default
-shape_of-into-in_default c = c.loop-i.invariant.1
-
-pub returns-in_default : goal.returns-in_default
-returns-in_default c =
-    bad-pair _ _ _ c.loop-i.i (omega arith) (no-pair _ _ (sym c.pair.ensures ∙ c.in_default.is))
+loop-i-init c = (refl, every-none _, refl)
 
 pub loop-i-preserved : goal.loop-i-preserved
 loop-i-preserved c =
-    let start = c in
     let loop = c.loop-i in
-    let field = start.args.field.now in
-    let into = start.args.into.now in
-    let q = a_pair _ _ _ (sym c.pair.ensures ∙ c.in-Value.is) in
-    let b : c.in-Value.b % 256 ≡ byte_of field loop.i = omega (arith, q.1, q.2) in (
-      omega arith,
-      length-set loop.into loop.i (c.in-Value.b % 256) ∙ loop.invariant.1,
-      every_more _ _ loop.invariant.2 q.0,
-      ap (λ l. set l loop.i (c.in-Value.b % 256)) loop.invariant.3
-          ∙ ap (λ v. set (tabulate (λ k. byte_of field k) loop.i ++ drop loop.i into) loop.i v) b
-          ∙ table_more (λ k. byte_of field k) into loop.i (omega (arith, loop.invariant.1)),
+    let field = c.args.field.now in
+    let into = c.args.into.now in
+    let q = a_pair _ _ c.in_ok-into.field-0 (sym c.pair.ensures ∙ c.in_ok-into.was) in (
+      length-set loop.into loop.i c.in_ok-into.field-0 ∙ loop.invariant.0,
+      every_more _ _ loop.invariant.1 q.0,
+      ap (λ l. set l loop.i c.in_ok-into.field-0) loop.invariant.2
+          ∙ ap (λ v. set (tabulate (λ k. byte_of field k) loop.i ++ drop loop.i into) loop.i v) q.1
+          ∙ table_more (λ k. byte_of field k) into loop.i (omega (arith, loop.invariant.0)),
     )
 
-pub shape_of-into : goal.shape_of-into
-shape_of-into c = c.loop-i.invariant.1
+pub returns-in_err-into : goal.returns-in_err-into
+returns-in_err-into c =
+    rw c.from_residual.ensures (bad-pair _ _ _ c.loop-i.i (omega arith) (no-pair _ _ (sym c.pair.ensures ∙ c.in_err-into.was)))
 
 pub returns : goal.returns
 returns c =
     all_read _ _ _ c.loop-i.i c.if-field-eq0.false c.if-field-ne0.false
-    (omega (arith, c.if-into-count.false)) (omega arith) c.loop-i.invariant.2 c.loop-i.invariant.3
+    (omega (arith, c.if-into-count.false)) (omega arith) c.loop-i.invariant.1 c.loop-i.invariant.2

@@ -8,31 +8,22 @@ use Rattle.lines.proofs.fields.digits.Goals as goal
 pub returns-then-field-eq0 : goal.returns-then-field-eq0
 returns-then-field-eq0 c = no-digits _ _ c.if-field-eq0.true
 
-pub loop-i-init : goal.loop-i-init
+pub loop-b-init : goal.loop-b-init
 unfolding value_of every
-loop-i-init c = (omega arith, refl, refl, omega arith)
+loop-b-init c = (refl, refl, omega arith)
 
-pub returns-in_default : goal.returns-in_default
-returns-in_default c =
-    let start = c in
-    let loop = c.loop-i in
-    let h = start.args.hexadecimal in
-    let field = start.args.field.now in
-    let e = ap (λ v. appended h v (get_or field loop.i 0)) (sym loop.invariant.1) ∙ sym c.with_digit.ensures ∙ c.in_default.is in
-    stops h field loop.i (omega arith) e
+pub returns-in_err-value : goal.returns-in_err-value
+returns-in_err-value c =
+    let field = c.args.field.now in
+    let e = ap (λ v. appended c.args.base v (get_or field c.loop-b.b-index 0)) (sym c.loop-b.invariant.0) ∙ sym c.with_digit.ensures ∙ c.in_err-value.was in
+    c.from_residual.ensures ∙ stops c.args.base field c.loop-b.b-index (omega arith) (omega arith) e
 
-pub loop-i-preserved : goal.loop-i-preserved
-loop-i-preserved c =
-    let start = c in
-    let loop = c.loop-i in
-    let h = start.args.hexadecimal in
-    let field = start.args.field.now in
-    let e = ap (λ v. appended h v (get_or field loop.i 0)) (sym loop.invariant.1) ∙ sym c.with_digit.ensures ∙ c.in-Value.is in
-    let q = goes_on_lem h field loop.i c.in-Value.more loop.invariant.2 e in
-    (omega arith, q.0, q.1, q.2)
+pub loop-b-preserved : goal.loop-b-preserved
+loop-b-preserved c =
+    let field = c.args.field.now in
+    let e = ap (λ v. appended c.args.base v (get_or field c.loop-b.b-index 0)) (sym c.loop-b.invariant.0) ∙ sym c.with_digit.ensures ∙ c.in_ok-value.was in
+    goes_on_lem c.args.base field c.loop-b.b-index c.in_ok-value.value c.loop-b.invariant.1 e
 
 pub returns : goal.returns
 returns c =
-    let start = c in
-    let loop = c.loop-i in
-    ended start.args.hexadecimal start.args.field.now loop.i loop.value c.if-field-eq0.false (omega arith) loop.invariant.2 loop.invariant.1 loop.invariant.3
+    ended c.args.base c.args.field.now c.loop-b.b-index c.loop-b.value c.if-field-eq0.false (omega arith) c.loop-b.invariant.1 c.loop-b.invariant.0 c.loop-b.invariant.2

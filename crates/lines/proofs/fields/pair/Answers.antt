@@ -1,17 +1,13 @@
-use Rattle.std.proofs.Common.{arith}
-use Rattle.lines.specs.Fields.{pair_of}
-use Rattle.lines.proofs.Bytes.{no-high, no-low, both-digits}
-use native.Mathlib.Omega.{arith}
+use Rattle.std.proofs.Common.{◌∙◌}
+use Rattle.lines.proofs.Bytes.{no-high, no-low, two_digits}
 use Rattle.lines.proofs.fields.pair.Goals as goal
 
-pub returns-then-h-gt15 : goal.returns-then-h-gt15
-returns-then-h-gt15 c = no-high _ _ (omega (arith, c.before.before.digit-h.ensures, c.if-h-gt15.true))
+pub returns-in_err-h : goal.returns-in_err-h
+returns-in_err-h c = c.from_residual.ensures ∙ no-high _ _ c.from.result c.from.ensures c.in_err-h.ensures.value
 
-pub returns-then-l-gt15 : goal.returns-then-l-gt15
-returns-then-l-gt15 c = no-low _ _ (omega (arith, c.before.before.digit-l.ensures, c.if-l-gt15.true))
+pub returns-in_err-l : goal.returns-in_err-l
+returns-in_err-l c = c.from_residual-in_err-l.ensures ∙ no-low _ _ c.from-2.result c.from-2.ensures c.in_err-l.ensures.value
 
 pub returns : goal.returns
-unfolding pair_of
 returns c =
-    rw (c.wide.ensures, c.before.before.before.before.digit-h.ensures, c.before.before.before.digit-l.ensures)
-    (both-digits _ _ (omega (arith, c.before.before.before.before.digit-h.ensures, c.before.before.if-h-gt15.false)) (omega (arith, c.before.before.before.digit-l.ensures, c.before.if-l-gt15.false)))
+    two_digits _ _ c.from.result c.from-2.result c.from.ensures c.from-2.ensures c.in_ok-h.ensures.value c.in_ok-l.ensures.value

@@ -1,11 +1,7 @@
 -- The byte is not among those that were passed.
-use Rattle.std.proofs.Common.{◌≡◌, ◌+◌, ◌-◌, ◌≤◌}
+use Rattle.std.proofs.Common.{◌≡◌, ◌+◌}
 use Rattle.lines.specs.Search.{index_of, slice}
 use Rattle.lines.proofs.scan.find.Given as goal
 
 abbrev pub invariant-loop-i : goal.invariant-loop-i
-invariant-loop-i l =
-    (l.from ≤ l.i) × (l.i ≤ l.end) × (l.from + index_of l.b (slice l.from l.end l.run) ≡ l.i + index_of l.b (slice l.i l.end l.run))
-
-abbrev pub decreases-loop-i : goal.decreases-loop-i
-decreases-loop-i l = l.end - l.i
+invariant-loop-i l = l.from + index_of l.b (slice l.from l.end l.run) ≡ l.i + index_of l.b (slice l.i l.end l.run)
