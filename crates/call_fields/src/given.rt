@@ -1,115 +1,112 @@
-// What `device` and `peer` lines give for the next setup: the words of a device list and how many devices it has, then
-// the words of an id list and how many ids.
-ghost use Rattle.std.specs.Prelude.{◌+◌, ◌*◌, ◌≤◌, length};
-ghost use Rattle.model.specs.Layout.{device_words, id_words, most_id_bytes, most_name_bytes, word_bytes};
+// What `device` and `peer` lines give for the next setup: the words of a device list and those of an id list.
+ghost use Rattle.std.specs.Prelude.{◌≡◌, take};
 
 use crate::numbers::numbers_and_bytes;
-use basics::lower;
-use lines::fields::Read;
-use model::{
-    BUSY_PLACE, DEVICE_CONFIGURED_PLACE, DEVICE_WORDS, ID_BYTES_PLACE, ID_MINOR_PLACE, ID_PLACE,
-    ID_WORDS, NAME_BYTES_PLACE, NAME_PLACE, NAME_WORDS, WORD_BYTES,
-};
+use model::{DEVICE_WORDS, ID_WORDS, MOST_ID_BYTES, MOST_NAME_BYTES, WORD_BYTES};
 
-// The longest name of a device that a line can give, and the longest id.
+// The longest name of a device that a line can give, and the longest id. What is longer than a list holds is cut.
 const LONGEST_NAME: usize = 300;
 
 const LONGEST_ID: usize = 64;
 
-// The most devices and the most ids that lines can give.
-const MOST_GIVEN: usize = 64;
+// The words of the most devices and of the most ids that lines can give.
+const MOST_DEVICE_WORDS: usize = 64 * DEVICE_WORDS;
 
-const MOST_GIVEN_IDS: usize = 32;
+const MOST_ID_WORDS: usize = 32 * ID_WORDS;
 
-const COUNT_WORD: usize = MOST_GIVEN * DEVICE_WORDS;
-
-pub const FIRST_GIVEN_ID: usize = COUNT_WORD + 1;
-
-const ID_COUNT: usize = FIRST_GIVEN_ID + MOST_GIVEN_IDS * ID_WORDS;
-
-pub const GIVEN_WORDS: usize = ID_COUNT + 1;
-
-pub type Given = [u64; GIVEN_WORDS];
-
-// How many words the devices given have, and the ids.
-pub fn words_of(given: &Given) -> usize {
-    lower(given[COUNT_WORD], MOST_GIVEN as u64) as usize * DEVICE_WORDS
+// Rows of the same count of words, and how many words they have.
+#[derive(Drop)]
+struct Rows<const N: usize> {
+    words: [u64; N],
+    used: usize,
 }
 
-pub fn id_words_of(given: &Given) -> usize {
-    lower(given[ID_COUNT], MOST_GIVEN_IDS as u64) as usize * ID_WORDS
-}
+impl<const N: usize> Rows<N> {
+    fn new() -> Rows<N>
+        ensures { result.used ≡ 0 }
+    {
+        Rows {
+            words: [0u64; N],
+            used: 0,
+        }
+    }
 
-// None is given.
-pub fn empty(given: &mut Given) {
-    given[COUNT_WORD] = 0;
-    given[ID_COUNT] = 0;
-}
+    fn words(&self) -> &[u64]
+        ensures { result.now ≡ take self.now.used self.now.words }
+    {
+        &self.words[..self.used.min(N)]
+    }
 
-// `n` words from `at` on: the bytes of a name, most significant first. A name of more bytes than they hold is cut.
-fn put_name(given: &mut Given, at: usize, n: usize, name: &[u8])
-    requires word_bytes_in_bounds { n * word_bytes ≤ length name.now }
-    requires n_bound { at + n ≤ 64 * device_words + 1 + 32 * id_words }
-{
-    let mut j: usize = 0;
-    while j < n {
-        given[at + j] = wire::get64(name, j * WORD_BYTES);
-        j += 1;
+    fn push(&mut self, word: u64) -> Option<()> {
+        *self.words.get_mut(self.used)? = word;
+        self.used += 1;
+        Some(())
+    }
+
+    // One row more, if there is room: its numbers, how many bytes a name has, and the name's words.
+    fn add(&mut self, numbers: &[u64], count: usize, name: &[u8]) -> Option<()> {
+        for number in numbers {
+            self.push(*number)?;
+        }
+        self.push(count as u64)?;
+        for word in name.chunks_exact(WORD_BYTES) {
+            self.push(wire::get64(word, 0))?;
+        }
+        Some(())
     }
 }
 
-// One device more, whose name has `count` bytes, at the start of a run with zeros after them; false where there is no
-// room.
-fn add(given: &mut Given, numbers: [u64; 3], count: usize, name: &[u8]) -> bool
-    requires { most_name_bytes ≤ length name.now }
-{
-    let devices = given[COUNT_WORD];
-    if (MOST_GIVEN as u64) <= devices {
-        return false;
+#[derive(Drop)]
+pub struct Given {
+    devices: Rows<MOST_DEVICE_WORDS>,
+    ids: Rows<MOST_ID_WORDS>,
+}
+
+impl Given {
+    pub fn new() -> Given
+        ensures devices { result.devices.used ≡ 0 }
+        ensures ids { result.ids.used ≡ 0 }
+    {
+        Given {
+            devices: Rows::new(),
+            ids: Rows::new(),
+        }
     }
-    let at = devices as usize * DEVICE_WORDS;
-    given[at] = numbers[0];
-    given[at + DEVICE_CONFIGURED_PLACE] = numbers[1];
-    given[at + BUSY_PLACE] = numbers[2];
-    given[at + NAME_BYTES_PLACE] = count as u64;
-    put_name(given, at + NAME_PLACE, NAME_WORDS, name);
-    given[COUNT_WORD] = devices + 1;
-    true
-}
 
-// One id more, of `count` bytes, likewise.
-fn add_id(given: &mut Given, numbers: [u64; 2], count: usize, id: &[u8]) -> bool
-    requires { most_id_bytes ≤ length id.now }
-{
-    let ids = given[ID_COUNT];
-    if (MOST_GIVEN_IDS as u64) <= ids {
-        return false;
+    pub fn device_words(&self) -> &[u64]
+        ensures { result.now ≡ take self.now.devices.used self.now.devices.words }
+    {
+        self.devices.words()
     }
-    let at = FIRST_GIVEN_ID + ids as usize * ID_WORDS;
-    given[at] = numbers[0];
-    given[at + ID_MINOR_PLACE] = numbers[1];
-    given[at + ID_BYTES_PLACE] = count as u64;
-    put_name(given, at + ID_PLACE, ID_WORDS - ID_PLACE, id);
-    given[ID_COUNT] = ids + 1;
-    true
-}
 
-// Reads a device for the next setup: its id, configured, busy and the bytes of its name.
-pub fn read_device(rest: &[u8], given: &mut Given) -> bool {
-    let mut numbers = [0u64; 3];
-    let mut name = [0u8; LONGEST_NAME];
-    let Read::Count(count) = numbers_and_bytes(rest, &mut numbers, &mut name) else {
-        return false;
-    };
-    add(given, numbers, count, &name)
-}
+    pub fn id_words(&self) -> &[u64]
+        ensures { result.now ≡ take self.now.ids.used self.now.ids.words }
+    {
+        self.ids.words()
+    }
 
-// Reads an id for the next setup: its major, highest minor and bytes.
-pub fn read_id(rest: &[u8], given: &mut Given) -> bool {
-    let mut numbers = [0u64; 2];
-    let mut id = [0u8; LONGEST_ID];
-    let Read::Count(count) = numbers_and_bytes(rest, &mut numbers, &mut id) else {
-        return false;
-    };
-    add_id(given, numbers, count, &id)
+    // None is given.
+    pub fn empty(&mut self)
+        ensures devices { self.new.devices.used ≡ 0 }
+        ensures ids { self.new.ids.used ≡ 0 }
+    {
+        self.devices.used = 0;
+        self.ids.used = 0;
+    }
+
+    // Reads a device for the next setup: its id, configured, busy and the bytes of its name.
+    pub fn read_device(&mut self, rest: &[u8]) -> Option<()> {
+        let mut name = [0u8; LONGEST_NAME];
+        let (numbers, count) = numbers_and_bytes::<3>(rest, &mut name)?;
+        let held = &name[..MOST_NAME_BYTES];
+        self.devices.add(&numbers, count, held)
+    }
+
+    // Reads an id for the next setup: its major, highest minor and bytes.
+    pub fn read_id(&mut self, rest: &[u8]) -> Option<()> {
+        let mut id = [0u8; LONGEST_ID];
+        let (numbers, count) = numbers_and_bytes::<2>(rest, &mut id)?;
+        let held = &id[..MOST_ID_BYTES];
+        self.ids.add(&numbers, count, held)
+    }
 }

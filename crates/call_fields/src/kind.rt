@@ -2,7 +2,7 @@
 use lines::fields;
 use lines::input::{LONGEST, is_ignored};
 
-#[derive(Clone, Copy)]
+#[derive(Clone, Copy, PartialEq, Eq)]
 pub enum Kind {
     // A blank line or a comment.
     Ignored,
@@ -27,64 +27,27 @@ pub enum Kind {
     Journal,
 }
 
-// The name of a call of the agent that adds an entry, or drains.
-fn agent_kind(name: &[u8]) -> Kind {
-    if fields::same(name, b"receive") {
-        return Kind::Receive;
-    }
-    if fields::same(name, b"work") {
-        return Kind::Work;
-    }
-    if fields::same(name, b"drain") {
-        return Kind::Drain;
-    }
-    if fields::same(name, b"offer") {
-        return Kind::Offer;
-    }
-    if fields::same(name, b"withdraw") {
-        return Kind::Withdraw;
-    }
-    if fields::same(name, b"close") {
-        return Kind::Close;
-    }
-    if fields::same(name, b"permit") {
-        return Kind::Permit;
-    }
-    if fields::same(name, b"take") {
-        return Kind::Take;
-    }
-    Kind::Unknown
-}
-
 fn kind_of(name: &[u8]) -> Kind {
-    if fields::same(name, b"piece") {
-        return Kind::Piece;
+    match name {
+        b"receive" => Kind::Receive,
+        b"work" => Kind::Work,
+        b"drain" => Kind::Drain,
+        b"offer" => Kind::Offer,
+        b"withdraw" => Kind::Withdraw,
+        b"close" => Kind::Close,
+        b"permit" => Kind::Permit,
+        b"take" => Kind::Take,
+        b"piece" => Kind::Piece,
+        b"reopen" => Kind::Reopen,
+        b"show" => Kind::Show,
+        b"state" => Kind::State,
+        b"device" => Kind::Device,
+        b"peer" => Kind::Peer,
+        b"setup" => Kind::Setup,
+        b"output" => Kind::Output,
+        b"journal" => Kind::Journal,
+        _ => Kind::Unknown,
     }
-    if fields::same(name, b"reopen") {
-        return Kind::Reopen;
-    }
-    if fields::same(name, b"show") {
-        return Kind::Show;
-    }
-    if fields::same(name, b"state") {
-        return Kind::State;
-    }
-    if fields::same(name, b"device") {
-        return Kind::Device;
-    }
-    if fields::same(name, b"peer") {
-        return Kind::Peer;
-    }
-    if fields::same(name, b"setup") {
-        return Kind::Setup;
-    }
-    if fields::same(name, b"output") {
-        return Kind::Output;
-    }
-    if fields::same(name, b"journal") {
-        return Kind::Journal;
-    }
-    agent_kind(name)
 }
 
 // What a line without its line end asks for.
