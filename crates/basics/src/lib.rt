@@ -2,15 +2,3 @@
 // values; proofs/ has the laws of loops over them.
 
 #![tactic(auto)]
-
-ghost use Rattle.std.specs.Prelude.{◌≡◌, min};
-
-// The lower of two numbers.
-pub fn lower(a: u64, b: u64) -> u64
-    ensures { result ≡ min a b }
-{
-    if a <= b {
-        return a;
-    }
-    b
-}
