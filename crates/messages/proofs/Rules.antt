@@ -67,7 +67,8 @@ module _ (m : List ℕ) where
   unfolding id_fits ◌and◌
   id-last r = rw (le-leb _ _ r.low, le-leb _ _ r.high, r.end)
 
-  -- what a well-formed message of a type has room for: INIT_REQ a major, REG_ACK a handle and a minor, all but INIT_REQ a handle
+  -- what a well-formed message of a type has room for: INIT_REQ a major, REG_ACK a handle and a minor, all but
+  -- INIT_REQ a handle
   module _ (fits : payload_fits m ≡ true) where
     pub init-payload : type_of m ≡ DS-INIT-REQ → payload_length m ≡ 4
     unfolding payload_fits pick

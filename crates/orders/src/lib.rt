@@ -1,4 +1,5 @@
-// 02, ticket 6: requests to shut down and to panic (services 2 and 3), the host's permissions, and the order that a request leaves for the host.
+// 02, ticket 6: requests to shut down and to panic (services 2 and 3), the host's permissions, and the order that a
+// request leaves for the host.
 #![tactic(auto)]
 
 ghost use Rattle.std.specs.Prelude.{◌≡◌, List, ℕ, ◌+◌, ◌≤◌, ◌<◌, length};
@@ -177,7 +178,8 @@ fn leave_for(state: &mut State, asked: Asked, b: &[u8], out: &mut [u8]) -> Handl
     }
 }
 
-// "A wrong length, tested first, ..; then a denied one fails with `denied`"; "a second request before that fails with the reason `pending`"
+// "A wrong length, tested first, ..; then a denied one fails with `denied`"; "a second request before that fails
+// with the reason `pending`"
 pub fn answer(
     state: &mut State,
     channel: u64,

@@ -1,4 +1,5 @@
-// What a message received does: which channels hear it, and to which handler it goes; and the part of it that the host is shown.
+// What a message received does: which channels hear it, and to which handler it goes; and the part of it that the
+// host is shown.
 #![tactic(auto)]
 
 ghost use Rattle.std.specs.Prelude.{◌≡◌, true, ◌≤◌, ◌<◌, length, Some, None};

@@ -58,7 +58,8 @@ fn told_major(own: u64, asked: u64) -> u16
     if own < asked { own as u16 } else { 0 }
 }
 
-// "A handle with the top bit, a handle .. of a peer registration on its channel, or a ninth one": what makes it a duplicate, whatever its id.
+// "A handle with the top bit, a handle .. of a peer registration on its channel, or a ninth one": what makes it a
+// duplicate, whatever its id.
 fn is_refused(state: &State, channel: usize, handle: u64) -> bool
     requires { channel < channel_count }
     ensures { result ≡ (leb top_bit handle or is_found (peer_for state.now channel handle) or leb most_peers (peers_below state.now channel most_ids)) }
@@ -76,7 +77,8 @@ fn id_of(message: &[u8]) -> &[u8]
     &message[20..]
 }
 
-// A REG_REQ of a listed id that the channel does not have registered: "The right major is acknowledged with the lower minor".
+// A REG_REQ of a listed id that the channel does not have registered: "The right major is acknowledged with the
+// lower minor".
 fn register_id(
     state: &mut State,
     channel: usize,
