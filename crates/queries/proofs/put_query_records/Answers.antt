@@ -1,16 +1,12 @@
 -- `queries::put_query_records` meets its contract: the records passed stand after the headers.
 -- Assumes nothing.
-use Rattle.std.proofs.Common.{◌≡◌, ◌+◌, ◌-◌, ◌*◌, ◌≤◌, length, refl, ◌∙◌, arith, length-drop, length-take}
+use Rattle.std.proofs.Common.{◌≡◌, ◌+◌, ◌-◌, ◌*◌, ◌≤◌, length, refl, ◌∙◌, arith}
 use Rattle.basics.specs.Choice.{joined}
 use Rattle.model.proofs.Replies.{query-length}
 use Rattle.records.proofs.Parts.{record-more}
 use Rattle.model.specs.Layout.{query_bytes, reply_header_bytes}
 use native.Mathlib.Omega.{arith}
 use Rattle.queries.proofs.put_query_records.Goals as goal
-
-pub put_query_record-requires : goal.put_query_record-requires
-put_query_record-requires c =
-    (c.requires.0, simp (length-take, length-drop) (omega arith))
 
 pub loop-i-preserved : goal.loop-i-preserved
 loop-i-preserved c =
