@@ -22,6 +22,7 @@ pub(crate) fn changed_two(out: &mut Output, name: &[u8], first: (usize, u64), se
 }
 
 // The same with one word changed.
+// A call for each case, and no table of them: each name's length and each word's place is proved where it stands.
 pub(crate) fn changed(out: &mut Output, name: &[u8], at: usize, word: u64)
     requires { (length name.now ≤ most_form) × (at < state_words) }
 {
