@@ -9,11 +9,8 @@ use answer_lines::answers;
 use front_model::{
     FRONT_BYTES, FRONT_WORDS, FrontBytes, FrontWords, MOST_KEPT, MOST_MESSAGE, PART_WORDS,
 };
-use lines::fields::same;
 use lines::outcome::report_failure;
-use lines::output;
-use lines::output::{Gathered, TEXT_BYTES, Text, put_if, put_text};
-use lines::parts::are_same;
+use lines::output::Output;
 use model::{HELD_WORD, JOURNAL_WORDS, LAST_WORD, MOST_HELD, MOST_PAYLOAD, OUTPUT_BYTES, State};
 
 // Where the words and the room of channel 2 begin.
@@ -35,286 +32,202 @@ fn new_state() -> State {
     started.state
 }
 
+// The words and the bytes of a front.
+#[derive(Clone, Copy, PartialEq, Eq)]
+struct Front {
+    words: FrontWords,
+    bytes: FrontBytes,
+}
+
 // A front of which channel 2 has these words, and in its room the beginning of a message of type 0x63, which no
 // message has, with this payload_len.
-fn words_of(kept: usize, dropping: u64) -> FrontWords {
+fn front_of(kept: usize, dropping: u64, payload_len: u32) -> Front {
     let mut words = [0u64; FRONT_WORDS];
     words[WORDS] = kept as u64;
     words[WORDS + 1] = dropping;
-    words
-}
-
-fn bytes_of(payload_len: u32) -> FrontBytes {
-    let mut length = [0u8; 4];
-    wire::put32(&mut length, 0, payload_len);
     let mut bytes = [BYTE; FRONT_BYTES];
-    bytes[ROOM] = 0;
-    bytes[ROOM + 1] = 0;
-    bytes[ROOM + 2] = 0;
-    bytes[ROOM + 3] = 0x63;
-    bytes[ROOM + 4] = length[0];
-    bytes[ROOM + 5] = length[1];
-    bytes[ROOM + 6] = length[2];
-    bytes[ROOM + 7] = length[3];
-    bytes
-}
-
-fn has_same_words(a: &FrontWords, b: &FrontWords) -> bool {
-    are_same(a, b)
-}
-
-fn has_same_bytes(a: &FrontBytes, b: &FrontBytes) -> bool {
-    same(a, b)
+    bytes[ROOM..ROOM + 4].copy_from_slice(&[0, 0, 0, 0x63]);
+    bytes[ROOM + 4..ROOM + 8].copy_from_slice(&payload_len.to_be_bytes());
+    Front { words, bytes }
 }
 
 // A piece of one byte on a channel.
-fn piece(
-    text: &mut Text,
-    gathered: Gathered,
-    words: &FrontWords,
-    bytes: &FrontBytes,
-    state: &State,
-    channel: usize,
-) -> Gathered {
-    let mut new_words = *words;
-    let mut new_bytes = *bytes;
+fn piece(out: &mut Output, front: &Front, state: &State, channel: usize) {
+    let mut new = *front;
     let mut new_state = *state;
     let mut journal = [0u64; JOURNAL_WORDS];
-    let mut out = [0u8; OUTPUT_BYTES];
+    let mut reply = [0u8; OUTPUT_BYTES];
     let a = front::piece(
-        &mut new_words,
-        &mut new_bytes,
+        &mut new.words,
+        &mut new.bytes,
         &mut new_state,
         channel,
         b"\x00",
         &mut journal,
-        &mut out,
+        &mut reply,
     );
-    let next = answers::put_piece(text, gathered, a, &out);
-    let is_same = has_same_words(words, &new_words) & has_same_bytes(bytes, &new_bytes);
-    put_if(
-        text,
-        next,
-        (a.refusal != 0) & !is_same,
-        b"the front has changed",
-    )
+    answers::put_piece(out, a, &reply);
+    out.put_if(a.refusal != 0 && new != *front, b"the front has changed");
 }
 
-fn reopen(
-    text: &mut Text,
-    gathered: Gathered,
-    words: &FrontWords,
-    bytes: &FrontBytes,
-    state: &State,
-    channel: usize,
-) -> Gathered {
-    let mut new_words = *words;
-    let refusal = front::reopen(&mut new_words, bytes, state, channel);
-    let next = answers::put_reopened(text, gathered, refusal);
-    let is_same = has_same_words(words, &new_words);
-    put_if(
-        text,
-        next,
-        (refusal != 0) & !is_same,
+fn reopen(out: &mut Output, front: &Front, state: &State, channel: usize) {
+    let mut words = front.words;
+    let refusal = front::reopen(&mut words, &front.bytes, state, channel);
+    answers::put_reopened(out, refusal);
+    out.put_if(
+        refusal != 0 && words != front.words,
         b"the front has changed",
-    )
+    );
 }
 
 // A front of which channel 2 is so: a piece there and on channel 0, and a reopening of each.
-fn each_call(
-    text: &mut Text,
-    gathered: Gathered,
-    name: &[u8],
-    kept: usize,
-    dropping: u64,
-    payload_len: u32,
-) -> Gathered
+fn each_call(out: &mut Output, name: &[u8], kept: usize, dropping: u64, payload_len: u32)
     requires { length name.now ≤ most_form }
 {
-    let words = words_of(kept, dropping);
-    let bytes = bytes_of(payload_len);
+    let front = front_of(kept, dropping, payload_len);
     let state = new_state();
-    let mut next = put_text(text, gathered, name);
-    next = piece(text, next, &words, &bytes, &state, 2);
-    next = piece(text, next, &words, &bytes, &state, 0);
-    next = reopen(text, next, &words, &bytes, &state, 2);
-    reopen(text, next, &words, &bytes, &state, 0)
+    out.put_text(name);
+    piece(out, &front, &state, 2);
+    piece(out, &front, &state, 0);
+    reopen(out, &front, &state, 2);
+    reopen(out, &front, &state, 0);
 }
 
 // Fewer bytes kept than a header, and a header with a short message.
-fn short_messages(text: &mut Text, gathered: Gathered) -> Gathered {
-    let mut next = gathered;
-    next = each_call(text, next, b"# nothing kept", 0, 0, 0);
-    next = each_call(
-        text,
-        next,
+fn short_messages(out: &mut Output) {
+    each_call(out, b"# nothing kept", 0, 0, 0);
+    each_call(
+        out,
         b"# 7 bytes kept, then the eighth: a payload_len above 4096",
         7,
         0,
         PAYLOAD + 256,
     );
-    next = each_call(text, next, b"# 8 bytes kept, payload_len 1", 8, 0, 1);
-    each_call(text, next, b"# 8 bytes kept, payload_len 2", 8, 0, 2)
+    each_call(out, b"# 8 bytes kept, payload_len 1", 8, 0, 1);
+    each_call(out, b"# 8 bytes kept, payload_len 2", 8, 0, 2);
 }
 
 // As many bytes kept as a message has, and more.
-fn whole_messages(text: &mut Text, gathered: Gathered) -> Gathered {
-    let mut next = gathered;
-    next = each_call(
-        text,
-        next,
+fn whole_messages(out: &mut Output) {
+    each_call(
+        out,
         b"# 8 bytes kept, payload_len 0: a whole message",
         8,
         0,
         0,
     );
-    next = each_call(
-        text,
-        next,
+    each_call(
+        out,
         b"# 9 bytes kept, payload_len 1: a whole message",
         9,
         0,
         1,
     );
     each_call(
-        text,
-        next,
+        out,
         b"# 10 bytes kept, payload_len 1: more than a message",
         10,
         0,
         1,
-    )
+    );
 }
 
 // The longest message, and a longer one.
-fn long_messages(text: &mut Text, gathered: Gathered) -> Gathered {
-    let mut next = gathered;
-    next = each_call(
-        text,
-        next,
-        b"# 8 bytes kept, payload_len 4096",
-        8,
-        0,
-        PAYLOAD,
-    );
-    each_call(
-        text,
-        next,
-        b"# 8 bytes kept, payload_len 4097",
-        8,
-        0,
-        PAYLOAD + 1,
-    )
+fn long_messages(out: &mut Output) {
+    each_call(out, b"# 8 bytes kept, payload_len 4096", 8, 0, PAYLOAD);
+    each_call(out, b"# 8 bytes kept, payload_len 4097", 8, 0, PAYLOAD + 1);
 }
 
 // All bytes but the last of the longest message kept, all of it, and all that there is room for.
-fn full_room(text: &mut Text, gathered: Gathered) -> Gathered {
-    let mut next = gathered;
-    next = each_call(
-        text,
-        next,
+fn full_room(out: &mut Output) {
+    each_call(
+        out,
         b"# 4103 bytes kept, payload_len 4096",
         MOST_KEPT,
         0,
         PAYLOAD,
     );
-    next = each_call(
-        text,
-        next,
+    each_call(
+        out,
         b"# 4104 bytes kept, payload_len 4096",
         MOST_MESSAGE,
         0,
         PAYLOAD,
     );
     each_call(
-        text,
-        next,
+        out,
         b"# 4104 bytes kept, payload_len 4097",
         MOST_MESSAGE,
         0,
         PAYLOAD + 1,
-    )
+    );
 }
 
-fn marks(text: &mut Text, gathered: Gathered) -> Gathered {
-    let mut next = gathered;
-    next = each_call(text, next, b"# dropping", 0, 1, 0);
-    next = each_call(text, next, b"# dropping, and a byte kept", 1, 1, 0);
-    each_call(text, next, b"# a mark of 2", 0, 2, 0)
+fn marks(out: &mut Output) {
+    each_call(out, b"# dropping", 0, 1, 0);
+    each_call(out, b"# dropping, and a byte kept", 1, 1, 0);
+    each_call(out, b"# a mark of 2", 0, 2, 0);
 }
 
 // An unsound front and lent runs that are too short.
-fn unsound_front(text: &mut Text, gathered: Gathered) -> Gathered {
-    let mut words = words_of(8, 0);
-    let mut bytes = bytes_of(0);
+fn unsound_front(out: &mut Output) {
+    let mut front = front_of(8, 0, 0);
     let mut state = new_state();
     let mut journal = [0u64; JOURNAL_WORDS - 1];
-    let mut out = [0u8; OUTPUT_BYTES - 1];
-    let mut next = put_text(
-        text,
-        gathered,
-        b"# an unsound front, 127 words of journal, 2591 bytes of output, channel 4",
-    );
+    let mut reply = [0u8; OUTPUT_BYTES - 1];
+    out.put_text(b"# an unsound front, 127 words of journal, 2591 bytes of output, channel 4");
     let a = front::piece(
-        &mut words,
-        &mut bytes,
+        &mut front.words,
+        &mut front.bytes,
         &mut state,
         4,
         b"\x00",
         &mut journal,
-        &mut out,
+        &mut reply,
     );
-    next = answers::put_piece(text, next, a, &out);
-    reopen(text, next, &words, &bytes, &state, 4)
+    answers::put_piece(out, a, &reply);
+    reopen(out, &front, &state, 4);
 }
 
 // A sound front, and an unsound state.
-fn unsound_state(text: &mut Text, gathered: Gathered) -> Gathered {
-    let words = words_of(0, 0);
-    let bytes = bytes_of(0);
+fn unsound_state(out: &mut Output) {
+    let front = front_of(0, 0, 0);
     let mut unsound = new_state();
     unsound[HELD_WORD] = 2;
-    let mut next = put_text(
-        text,
-        gathered,
-        b"# a sound front and an unsound state, channel 2 and channel 4",
-    );
-    next = piece(text, next, &words, &bytes, &unsound, 2);
-    next = piece(text, next, &words, &bytes, &unsound, 4);
-    next = reopen(text, next, &words, &bytes, &unsound, 2);
-    reopen(text, next, &words, &bytes, &unsound, 4)
+    out.put_text(b"# a sound front and an unsound state, channel 2 and channel 4");
+    piece(out, &front, &unsound, 2);
+    piece(out, &front, &unsound, 4);
+    reopen(out, &front, &unsound, 2);
+    reopen(out, &front, &unsound, 4);
 }
 
 // With 64 entries held a piece that gives a message is refused by 4, one that gives none is taken, and so is a
 // reopening.
-fn held(text: &mut Text, gathered: Gathered) -> Gathered {
+fn held(out: &mut Output) {
     let mut state = new_state();
     state[LAST_WORD] = MOST_HELD;
     state[HELD_WORD] = MOST_HELD;
-    let bytes = bytes_of(1);
-    let mut next = put_text(
-        text,
-        gathered,
+    out.put_text(
         b"# 64 entries held: the last byte of a message, a byte within one, one that is dropped, a reopening",
     );
-    next = piece(text, next, &words_of(8, 0), &bytes, &state, 2);
-    next = piece(text, next, &words_of(7, 0), &bytes_of(256), &state, 2);
-    next = piece(text, next, &words_of(0, 1), &bytes, &state, 2);
-    reopen(text, next, &words_of(8, 0), &bytes, &state, 2)
+    piece(out, &front_of(8, 0, 1), &state, 2);
+    piece(out, &front_of(7, 0, 256), &state, 2);
+    piece(out, &front_of(0, 1, 1), &state, 2);
+    reopen(out, &front_of(8, 0, 1), &state, 2);
 }
 
 fn main(rt: HostRuntime) {
-    let mut text = [0u8; TEXT_BYTES];
-    let mut next = output::none(rt.stdout());
-    next = short_messages(&mut text, next);
-    next = whole_messages(&mut text, next);
-    next = long_messages(&mut text, next);
-    next = full_room(&mut text, next);
-    next = marks(&mut text, next);
-    next = unsound_front(&mut text, next);
-    next = unsound_state(&mut text, next);
-    next = held(&mut text, next);
-    if output::flush(&text, next).failed {
+    let mut out = Output::new(rt.stdout());
+    short_messages(&mut out);
+    whole_messages(&mut out);
+    long_messages(&mut out);
+    full_room(&mut out);
+    marks(&mut out);
+    unsound_front(&mut out);
+    unsound_state(&mut out);
+    held(&mut out);
+    out.flush();
+    if out.failed {
         report_failure(
             rt.stderr(),
             b"front_bounds",

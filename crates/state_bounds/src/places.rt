@@ -1,13 +1,9 @@
 // The words of a made state that the cases change.
 use model::{
     BLOCK_WORDS, CHANNEL_WORDS, FIRST_BLOCK_WORD, FIRST_DEVICE_WORD, FIRST_HANDLE_WORD,
-    FIRST_ID_WORD, FIRST_MINOR_WORD, FIRST_PEER_WORD, FIRST_STAGE_WORD, JOURNAL_WORDS, MARK_WORDS,
-    MOST_IDS, OUTPUT_BYTES, PEER_WORDS, SERVICE_WORDS,
+    FIRST_ID_WORD, FIRST_MINOR_WORD, FIRST_PEER_WORD, FIRST_STAGE_WORD, MARK_WORDS, MOST_IDS,
+    PEER_WORDS, SERVICE_WORDS,
 };
-
-pub(crate) type Journal = [u64; JOURNAL_WORDS];
-
-pub(crate) type Output = [u8; OUTPUT_BYTES];
 
 // The words of the services of channel 2: of service 0 the stage, the handle and the minor version. The words of the
 // next service come SERVICE_WORDS later.

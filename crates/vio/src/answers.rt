@@ -1,83 +1,54 @@
 // The answers of the handshake's calls as lines of text.
 ghost use Rattle.std.specs.Prelude.{◌≤◌, length};
-ghost use Rattle.lines.specs.Forms.{Gathers, shown_bytes};
+ghost use Rattle.lines.specs.Forms.{shown_bytes};
+ghost use Rattle.lines.specs.Output.{Adds};
 ghost use Rattle.vio.specs.Answers.{ready_line, refused_line, sent_line, state_line};
 
-use lines::output;
-use lines::output::{Gathered, Text};
+use lines::output::Output;
 use vio_model::{AGREED, ASKED, Answer, ENDED, End, ID, MAJOR, MESSAGE_WORDS, MINOR, STAGE};
 
-fn put_refused(text: &mut Text, gathered: Gathered, name: &[u8], refusal: u64) -> Gathered
+fn put_refused(out: &mut Output, name: &[u8], refusal: u64)
     requires { length name.now ≤ shown_bytes }
-    ensures { Gathers
-        (refused_line name.now refusal)
-        text.old gathered.used result.used text.new }
+    ensures { Adds (refused_line name.now refusal) out.old out.new }
 {
-    output::put_bytes(
-        text,
-        gathered,
-        b"\x06 refused \0",
-        name,
-        [refusal, 0, 0, 0],
-        b"",
-    )
+    out.put_bytes(b"\x06 refused \0", name, [refusal, 0, 0, 0], b"");
 }
 
-pub(crate) fn put_ready(text: &mut Text, gathered: Gathered, refusal: u64) -> Gathered
-    ensures { Gathers
-        (ready_line refusal)
-        text.old gathered.used result.used text.new }
+#[tactic(auto, unfolding(crate::specs::Answers::ready_line, basics::specs::Choice::pick))]
+pub(crate) fn put_ready(out: &mut Output, refusal: u64)
+    ensures { Adds (ready_line refusal) out.old out.new }
 {
     if refusal != 0 {
-        return put_refused(text, gathered, b"end", refusal);
+        return put_refused(out, b"end", refusal);
     }
-    output::put_line(text, gathered, b"end accepted", [0u64; 4])
+    out.put_line(b"end accepted", [0u64; 4]);
 }
 
 // The call's name, and the words sent, if any.
-pub(crate) fn put_sent(text: &mut Text, gathered: Gathered, name: &[u8], a: Answer) -> Gathered
+#[tactic(auto, unfolding(crate::specs::Answers::sent_line, basics::specs::Choice::pick))]
+pub(crate) fn put_sent(out: &mut Output, name: &[u8], a: Answer)
     requires { length name.now ≤ shown_bytes }
-    ensures { Gathers
-        (sent_line name.now a)
-        text.old gathered.used result.used text.new }
+    ensures { Adds (sent_line name.now a) out.old out.new }
 {
     if a.refusal != 0 {
-        return put_refused(text, gathered, name, a.refusal);
+        return put_refused(out, name, a.refusal);
     }
     if a.count == MESSAGE_WORDS {
-        return output::put_bytes(
-            text,
-            gathered,
-            b"\x06 \x04 \x05",
-            name,
-            [a.first, a.second, 0, 0],
-            b"",
-        );
+        return out.put_bytes(b"\x06 \x04 \x05", name, [a.first, a.second, 0, 0], b"");
     }
-    output::put_bytes(text, gathered, b"\x06", name, [0u64; 4], b"")
+    out.put_bytes(b"\x06", name, [0u64; 4], b"");
 }
 
 // What an end's session is.
-pub(crate) fn put_state(text: &mut Text, gathered: Gathered, number: u64, end: &End) -> Gathered
-    ensures { Gathers
-        (state_line number end.now)
-        text.old gathered.used result.used text.new }
+#[tactic(auto, unfolding(crate::specs::Answers::form_of, basics::specs::Choice::pick))]
+pub(crate) fn put_state(out: &mut Output, number: u64, end: &End)
+    ensures { Adds (state_line number end.now) out.old out.new }
 {
-    let stage = end[STAGE];
     let values = [number, end[MAJOR], end[MINOR], end[ID]];
-    if stage == ASKED {
-        return output::put_line(text, gathered, b"end \0 asked \x01 \x02", values);
+    match end[STAGE] {
+        ASKED => out.put_line(b"end \0 asked \x01 \x02", values),
+        AGREED => out.put_line(b"end \0 agreed \x01 \x02 session \x03", values),
+        ENDED => out.put_line(b"end \0 refused", values),
+        _ => out.put_line(b"end \0 no version", values),
     }
-    if stage == AGREED {
-        return output::put_line(
-            text,
-            gathered,
-            b"end \0 agreed \x01 \x02 session \x03",
-            values,
-        );
-    }
-    if stage == ENDED {
-        return output::put_line(text, gathered, b"end \0 refused", values);
-    }
-    output::put_line(text, gathered, b"end \0 no version", values)
 }
