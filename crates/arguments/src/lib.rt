@@ -57,8 +57,8 @@ impl Options {
     }
 }
 
-// How many bytes an argument has, which are put at the start of a run; none where there is no such argument. One that is
-// longer than the run counts as an empty one: a program takes neither.
+// How many bytes an argument has, which are put at the start of a run; none where there is no such argument. One that
+// is longer than the run counts as an empty one: a program takes neither.
 fn word_at<R: Env>(rt: &R, i: usize, into: &mut [u8]) -> Option<usize>
     ensures { IfSome result (λ n. n ≤ length into.new) }
 {

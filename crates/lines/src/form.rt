@@ -127,7 +127,9 @@ impl Output {
 
     // Puts a whole line where there is room for it.
     pub(crate) fn put_whole(&mut self, form: &[u8], name: &[u8], values: Values, bytes: &[u8])
-        requires { (length form.now ≤ most_form) × (length name.now ≤ shown_bytes) × (self.old.used + line_bytes ≤ text_bytes) }
+        requires form { length form.now ≤ most_form }
+        requires name { length name.now ≤ shown_bytes }
+        requires room { self.old.used + line_bytes ≤ text_bytes }
         ensures { PutsInto (line_of form.now name.now values bytes.now) line_bytes self.old self.new }
     {
         let end = MOST_BYTES.min(bytes.len());

@@ -31,7 +31,8 @@ pub enum Stage {
     Failed,
 }
 
-// Where the bytes are read from. Those from `start` to `end` of the buffer have not been handed out; `lines` lines have.
+// Where the bytes are read from. Those from `start` to `end` of the buffer have not been handed out; `lines` lines
+// have.
 #[derive(Clone, Copy)]
 pub struct Held {
     pub from: Stdin,

@@ -5,8 +5,8 @@ use Rattle.lines.proofs.Puts.{start_fits}
 use native.Mathlib.Omega.{arith}
 use Rattle.lines.proofs.output.Output.put_bytes.Goals as goal
 
-pub put_whole-requires : goal.put_whole-requires
-put_whole-requires c = (omega arith, omega arith, omega (arith, c.make_room.ensures.used, start_fits c.args.self.now.used))
+pub put_whole-requires-clause-room : goal.put_whole-requires-clause-room
+put_whole-requires-clause-room c = omega (arith, c.make_room.ensures.used, start_fits c.args.self.now.used)
 
 pub returns : goal.returns
 returns c =
