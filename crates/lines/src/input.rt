@@ -32,7 +32,7 @@ pub enum Stage {
 }
 
 // Where the bytes are read from. Those from `start` to `end` of the buffer have not been handed out; `lines` lines
-// have.
+// have. The buffer stands beside it: a method that lends a line would hold all of it while the line is answered.
 #[derive(Clone, Copy)]
 pub struct Held {
     pub from: Stdin,
