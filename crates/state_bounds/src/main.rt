@@ -1,5 +1,5 @@
-// The boundaries of 01 and 02 that no list of calls reaches: on states made by hand the last entry number and each way in
-// which a state is not sound, and what setup writes.
+// The boundaries of 01 and 02 that no list of calls reaches: on states made by hand the last entry number and each way
+// in which a state is not sound, and what setup writes.
 #![tactic(auto)]
 
 mod block_cases;
