@@ -1,8 +1,8 @@
 // CONFIGURE: its records in order, and its reply.
 #![tactic(auto)]
 
-ghost use Rattle.std.specs.Prelude.{◌≡◌, ◌+◌, ◌*◌, ◌^◌, ◌≤◌, ◌<◌, length, Some};
-ghost use Rattle.model.specs.Layout.{blocks_of, memory_header_bytes, most_blocks, most_records, output_bytes, pair_bytes, state_words};
+ghost use Rattle.std.specs.Prelude.{◌≡◌, ◌^◌, ◌≤◌, ◌<◌, length, Some};
+ghost use Rattle.model.specs.Layout.{blocks_of, most_blocks, output_bytes};
 ghost use Rattle.model.specs.Search.{BlocksInOrder};
 ghost use Rattle.model.specs.Memory.{configured_by, answering_configure};
 ghost use Rattle.model.specs.Handler.{Handles};

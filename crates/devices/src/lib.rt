@@ -65,7 +65,7 @@ fn none_is_zero(b: &[u8], from: usize, n: usize) -> bool
 {
     let mut none = true;
     for k in 0..n {
-        none = none & (b[from + k] != 0);
+        none &= b[from + k] != 0;
     }
     none
 }

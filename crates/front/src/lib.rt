@@ -8,7 +8,7 @@ ghost use Rattle.basics.specs.Choice.{pick};
 ghost use Rattle.model.specs.Promises.{ReceivePost};
 ghost use Rattle.model.specs.Messages.{payload_length};
 ghost use Rattle.model.specs.Layout.{channel_count, ds_header_bytes};
-ghost use Rattle.front_model.specs.Front.{dropping_at, front_bytes, front_sound, front_sound_at, front_words, kept_at, most_kept, most_message, unfinished};
+ghost use Rattle.front_model.specs.Front.{dropping_at, front_bytes, front_sound, front_sound_at, kept_at, most_kept, most_message, unfinished};
 ghost use Rattle.front_model.specs.Promises.{PiecePost, ReopenPost};
 ghost use Rattle.front.specs.Changes.{Fronts, with_words};
 ghost use Rattle.front.specs.Answers.{given_piece, refused_piece};

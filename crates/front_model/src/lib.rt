@@ -23,7 +23,8 @@ pub type FrontWords = [u64; FRONT_WORDS];
 
 pub type FrontBytes = [u8; FRONT_BYTES];
 
-// The answer to a piece, as the definition `PiecePost` has it: the refusal; how many bytes were taken; whether a message was given to the agent; the reply's length.
+// The answer to a piece, as the definition `PiecePost` has it: the refusal; how many bytes were taken; whether a message
+// was given to the agent; the reply's length.
 #[derive(Clone, Copy)]
 pub struct Piece {
     pub refusal: u64,

@@ -45,7 +45,7 @@ fn id_apart(words: &[u64], at: usize, p: usize) -> bool
     true
 }
 
-// `each_keeps` below is no twin of this loop: it writes the hashes on its way.
+// Each id has other bytes than those before it. (`each_keeps` writes the hashes on its way.)
 fn each_apart(words: &[u64], at: usize, n: usize) -> bool
     requires { (at + n * id_words ≤ length words.now) × (every n (id_keeps words.now at) ≡ true) }
     ensures { result ≡ every n (id_apart words.now at) }
@@ -120,7 +120,8 @@ fn first_hashes() -> Hashes
     hashes
 }
 
-// The ids keep the rules, and differ.
+// The ids keep the rules, and differ. It stays a call, so that a list without ids costs no frame.
+#[inline(never)]
 fn keep_apart(words: &[u64], at: usize, n: usize) -> bool
     requires { (n ≤ most_ids) × (at + n * id_words ≤ length words.now) }
     ensures { result ≡ ids_keep words.now at n }

@@ -1,6 +1,6 @@
 // Whole lines of standard input, handed out of a lent buffer. What was read is handed out line by line before more is
 // read, so that a program answers all of it first.
-ghost use Rattle.std.specs.Prelude.{◌≡◌, ◌+◌, ◌≤◌, length};
+ghost use Rattle.std.specs.Prelude.{◌≡◌, ◌≤◌, length};
 ghost use Rattle.lines.specs.Input.{Holds, input_bytes};
 
 use crate::fields::{is_blank, is_comment};

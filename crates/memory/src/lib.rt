@@ -1,11 +1,10 @@
 // "Memory messages (service 0)": what each request does to the state, and its reply; CONFIGURE and QUERY by their own crates.
 #![tactic(auto)]
 
-ghost use Rattle.std.specs.Prelude.{◌≡◌, true, List, [], ℕ, ◌+◌, ◌*◌, ◌≤◌, ◌<◌, length};
+ghost use Rattle.std.specs.Prelude.{◌≡◌, true, List, [], ℕ, ◌≤◌, ◌<◌, length};
 ghost use Rattle.std.proofs.lemmas.List.Edits.{sets};
 ghost use Rattle.basics.specs.Choice.{joined};
-ghost use Rattle.model.specs.declared.Request.TheVariants.{Configure, Unconfigure};
-ghost use Rattle.model.specs.Layout.{channel_count, memory_header_bytes, most_records, output_bytes, pair_bytes, removal_of, reply_header_bytes, status_bytes};
+ghost use Rattle.model.specs.Layout.{channel_count, most_records, output_bytes, removal_of, reply_header_bytes, status_bytes};
 ghost use Rattle.model.specs.Search.{BlocksInOrder};
 ghost use Rattle.model.specs.Blocks.{most_pages};
 ghost use Rattle.model.specs.State.{sound};

@@ -1,10 +1,10 @@
 // QUERY: the permanent pages of each pair.
 #![tactic(auto)]
 
-ghost use Rattle.std.specs.Prelude.{◌≡◌, ◌+◌, ◌*◌, ◌<◌, ◌≤◌, true, length};
+ghost use Rattle.std.specs.Prelude.{◌≡◌, ◌<◌, ◌≤◌, true, length};
 ghost use Rattle.std.proofs.lemmas.List.Edits.{sets};
 ghost use Rattle.basics.specs.Choice.{joined};
-ghost use Rattle.model.specs.Layout.{blocks_of, memory_header_bytes, most_records, output_bytes, pair_bytes, query_bytes, reply_header_bytes};
+ghost use Rattle.model.specs.Layout.{blocks_of, output_bytes, query_bytes, reply_header_bytes};
 ghost use Rattle.model.specs.State.{sound};
 ghost use Rattle.model.specs.Memory.{addr_in, permanent_range, query_record, querying, size_in};
 ghost use Rattle.model.specs.Handler.{Handles};

@@ -1,5 +1,6 @@
 // Lines gathered, and written to standard output in large pieces. A write that fails is reported once.
-ghost use Rattle.std.specs.Prelude.{◌≡◌, ◌≤◌, length};
+ghost use Rattle.std.specs.Prelude.{◌≡◌, ◌*◌, ◌≤◌, length};
+ghost use Rattle.entry_lines.specs.Output.{line_bytes};
 ghost use Rattle.model.specs.Replay.{entry_bytes};
 
 use crate::errors;
@@ -30,7 +31,9 @@ pub fn write(rt: HostRuntime, text: &[u8]) -> Result<(), Failure> {
 }
 
 impl Lines {
-    pub fn new() -> Lines {
+    pub fn new() -> Lines
+        ensures { result.used ≡ 0 }
+    {
         Lines {
             text: [0u8; TEXT_BYTES],
             used: 0,
@@ -49,6 +52,7 @@ impl Lines {
     // Puts the line of an entry behind those gathered.
     pub fn tell(&mut self, rt: HostRuntime, entry: &[u8], marked: bool) -> Result<(), Failure>
         requires { length entry.now ≡ entry_bytes }
+        ensures { self.new.used ≤ 2 * line_bytes }
     {
         if LINE_BYTES < self.used {
             self.flush(rt)?;

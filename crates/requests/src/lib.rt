@@ -2,7 +2,7 @@
 #![tactic(auto)]
 
 ghost use Rattle.std.specs.Prelude.{◌≡◌, ◌+◌, ◌*◌, ◌<◌, ◌≤◌, length};
-ghost use Rattle.model.specs.Memory.{DR-MEM-UNCONF-STATUS, DR-MEM-UNCONF-CANCEL, request_number, addr_in, size_in, has_records, has_nothing, request_of, right_form};
+ghost use Rattle.model.specs.Memory.{request_number, addr_in, size_in, has_records, has_nothing, request_of, right_form};
 ghost use Rattle.model.specs.Journal.{answered_event};
 ghost use Rattle.model.specs.Layout.{memory_header_bytes, memory_service, most_records, pair_bytes};
 

@@ -114,8 +114,8 @@ fn live_handles_apart(state: &State) -> bool
     true
 }
 
-// A quick test: the service at place k is idle, or no place before it has its handle, live or not. (`peers` has the same
-// tests of its own words: one function for both would take a closure for each word, in what every call runs.)
+// A quick test: the service at place k is idle, or no place before it has its handle, live or not. `peers` tests its own
+// words alike; a function for both would take a closure for each word.
 fn handle_alone(state: &State, k: usize) -> bool
     requires { k < place_count }
     ensures { result ≡ true → handle_apart state.now k ≡ true }
