@@ -199,7 +199,10 @@ fn copy(bytes: &mut FrontBytes, at: usize, piece: &[u8])
     requires { at + length piece.now ≤ front_bytes }
     ensures { bytes.new ≡ sets bytes.old at piece.now }
 {
-    bytes[at..at + piece.len()].copy_from_slice(piece);
+    // A loop: `copy_from_slice` would leave memmove to what links the library.
+    for i in 0..piece.len() {
+        bytes[at + i] = piece[i];
+    }
 }
 
 // "the call is refused with the same number and has taken nothing"

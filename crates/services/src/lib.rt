@@ -126,7 +126,11 @@ fn put_id(out: &mut [u8], at: usize, row: Row)
     requires { RowFits row × (at + length row.id.now ≤ length out.old) }
     ensures { out.new ≡ sets out.old at (service_in row).id }
 {
-    out[at..at + row.id.len()].copy_from_slice(row.id);
+    // A loop: `copy_from_slice` would leave memmove to what links the library.
+    let id = row.id;
+    for i in 0..id.len() {
+        out[at + i] = id[i];
+    }
 }
 
 // major_vers, minor_vers and svc_id, as they stand in REG_REQ.

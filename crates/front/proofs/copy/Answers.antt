@@ -1,15 +1,16 @@
--- `front::copy` meets its contract: the part that is copied to is a run of stores.
+-- `front::copy` meets its contract: the bytes passed are stored.
 -- Assumes nothing.
-use Rattle.std.proofs.Common.{◌+◌, arith, sym, ◌∙◌, ap}
-use borrow.Rule.Slice.PartMut.{mid_len}
-use lib.ListN.{length}
-use Rattle.wire.proofs.Laws.{part-stored}
+use mathlib.Core.Path.{refl, ap, ◌∙◌}
+use native.Mathlib.Omega.{arith}
+use lib.Seq.{sets, take_all}
+use Rattle.wire.proofs.Laws.{sets_more}
 use Rattle.front.proofs.copy.Goals as goal
 
+pub loop-i-preserved : goal.loop-i-preserved
+loop-i-preserved c = sets_more _ _ _ _ c.loop-i-test.true c.loop-i.invariant
+
 pub returns : goal.returns
-returns c =
-    let e = c.copy_from_slice.ensures in
-    let b = c.args.bytes.now in
-    let n = length c.args.piece.now in
-    let long = mid_len c.args.at (c.args.at + n) b (omega (arith, c.requires, c.told-bytes)) in
-    rw e.after (part-stored b c.args.piece.now c.args.at _ (omega (arith, c.requires, c.told-bytes)) (ap length (sym e.after) ∙ e.len ∙ long))
+returns c = c.loop-i.invariant ∙ ap (sets _ _) (take_all c.loop-i.i c.args.piece.now (omega arith))
+
+pub loop-i-init : goal.loop-i-init
+loop-i-init c = refl

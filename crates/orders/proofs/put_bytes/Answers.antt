@@ -1,13 +1,16 @@
--- `orders::put_bytes` meets its contract: a copy to a part of the output is a run of stores.
+-- `orders::put_bytes` meets its contract: the bytes passed are stored.
 -- Assumes nothing.
-use Prim.Native.Nat.{◌+◌, ◌-◌}
+use mathlib.Core.Path.{refl, ap, ◌∙◌}
 use native.Mathlib.Omega.{arith}
-use lib.ListN.{length}
-use Rattle.wire.proofs.Laws.{part-stored}
+use lib.Seq.{sets, take_all}
+use Rattle.wire.proofs.Laws.{sets_more}
 use Rattle.orders.proofs.put_bytes.Goals as goal
 
+pub loop-i-preserved : goal.loop-i-preserved
+loop-i-preserved c = sets_more _ _ _ _ c.loop-i-test.true c.loop-i.invariant
+
 pub returns : goal.returns
-returns c =
-    let bytes = c.args.bytes.now in
-    rw c.copy_from_slice.ensures.after
-    (part-stored c.args.out.now bytes c.args.at (c.args.at + length bytes - c.args.at) (omega arith) (omega arith))
+returns c = c.loop-i.invariant ∙ ap (sets _ _) (take_all c.loop-i.i c.args.bytes.now (omega arith))
+
+pub loop-i-init : goal.loop-i-init
+loop-i-init c = refl

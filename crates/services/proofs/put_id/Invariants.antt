@@ -1,0 +1,9 @@
+-- `services::put_id` meets its contract: the bytes passed are stored.
+-- Assumes nothing.
+use mathlib.Core.Path.{◌≡◌}
+use lib.ListN.{take}
+use lib.Seq.{sets}
+use Rattle.services.proofs.put_id.Given as goal
+
+abbrev pub invariant-loop-i : goal.invariant-loop-i
+invariant-loop-i l = l.out ≡ sets l.initial.out l.at (take l.i l.id)
