@@ -12,7 +12,7 @@ use std::io::Write;
 const TEXT_BYTES: usize = 2 * LINE_BYTES;
 
 // The lines gathered, at the start of the text.
-#[derive(Drop)]
+#[derive(Clone, Copy)]
 pub struct Lines {
     text: [u8; TEXT_BYTES],
     used: usize,
@@ -21,7 +21,8 @@ pub struct Lines {
 // Writes all of the text. A write that a signal interrupted is made again.
 pub fn write(rt: HostRuntime, text: &[u8]) -> Result<(), Failure> {
     let mut to = rt.stdout();
-    match to.write_all(text) {
+    // By its trait: `Print` has a method of that name too, which gives up after a count of interrupted writes.
+    match Write::write_all(&mut to, text) {
         Ok(()) => Ok(()),
         Err(e) => {
             errors::report(rt, b"reader: the output cannot be written", e);
