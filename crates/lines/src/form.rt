@@ -2,11 +2,11 @@
 // hexadecimal, or a name. After the form come bytes as hexadecimal digits, if there are any, and the line's end.
 ghost use Rattle.std.specs.Prelude.{◌≡◌, ◌+◌, ◌*◌, ◌<◌, ◌≤◌, [], ◌∷◌, length};
 ghost use Rattle.io.specs.Digits.{hex_digit_ascii as Digits·glyph};
-ghost use Rattle.lines.specs.Forms.{decimal, decimal_places, filled, hex_of, line_bytes, line_of, most_form};
+ghost use Rattle.lines.specs.Forms.{Puts, decimal, decimal_places, filled, hex_of, line_bytes, line_of, most_form};
 ghost use Rattle.lines.specs.Forms.{pair_of, shown, shown_bytes, tail_of, text_bytes, word, word_places};
 ghost use Rattle.lines.specs.Output.{PutsInto};
 
-use crate::output::Output;
+use crate::output::{Output, Text};
 
 // The marks: four numbers in decimal, two of them as words, and the name.
 const NUMBERS: u8 = 4;
@@ -30,6 +30,16 @@ fn glyph(d: u8) -> u8
         return 48 + d;
     }
     87 + d
+}
+
+// Puts a byte's two digits at a place; the next place.
+fn put_pair(text: &mut Text, at: usize, b: u8) -> usize
+    requires { at + 2 ≤ text_bytes }
+    ensures { Puts (pair_of b) text.old at 2 result text.new }
+{
+    text[at] = glyph(b / 16);
+    text[at + 1] = glyph(b % 16);
+    at + 2
 }
 
 impl Output {
@@ -95,21 +105,17 @@ impl Output {
         }
     }
 
-    fn put_pair(&mut self, b: u8)
-        requires { self.old.used + 2 ≤ text_bytes }
-        ensures { PutsInto (pair_of b) 2 self.old self.new }
-    {
-        self.put_byte(glyph(b / 16));
-        self.put_byte(glyph(b % 16));
-    }
-
+    // The next place is a number of its own, and `used` is set at the end: a store to the text could be one to `used`,
+    // as far as the compiler knows, which would load it again for each digit.
     fn put_hex(&mut self, bytes: &[u8])
         requires { self.old.used + length bytes.now * 2 ≤ text_bytes }
         ensures { PutsInto (hex_of bytes.now) (length bytes.now * 2) self.old self.new }
     {
+        let mut next = self.used;
         for b in bytes {
-            self.put_pair(*b);
+            next = put_pair(&mut self.text, next, *b);
         }
+        self.used = next;
     }
 
     // Bytes after a space, nothing for no bytes; then the line's end.

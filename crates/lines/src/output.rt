@@ -7,16 +7,18 @@ ghost use Rattle.lines.specs.Output.{Adds};
 use crate::form::Values;
 use std::io::{Print, Stdout};
 
-const TEXT_BYTES: usize = 65536;
+pub const TEXT_BYTES: usize = 65536;
 
 // The most bytes of a line.
 const LINE_BYTES: usize = 35330;
 
+pub type Text = [u8; TEXT_BYTES];
+
 // Where the bytes go, those that are gathered, how many they are, and whether a write has failed.
-#[derive(Drop)]
+#[derive(Clone, Copy)]
 pub struct Output {
     to: Stdout,
-    pub(crate) text: [u8; TEXT_BYTES],
+    pub(crate) text: Text,
     pub(crate) used: usize,
     pub failed: bool,
 }

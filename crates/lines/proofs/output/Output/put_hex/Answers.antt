@@ -11,8 +11,11 @@ pub loop-b-init : goal.loop-b-init
 unfolding joined
 loop-b-init c = puts_none
 
+pub put_pair-next-requires : goal.put_pair-next-requires
+put_pair-next-requires c = omega (arith, c.loop-b.invariant.fits)
+
 pub loop-b-preserved : goal.loop-b-preserved
-loop-b-preserved c = puts-within _ (omega arith) (puts-joined _ c.loop-b.b-index c.loop-b.invariant c.put_pair.ensures)
+loop-b-preserved c = puts-within _ (omega arith) (puts-joined _ c.loop-b.b-index c.loop-b.invariant c.put_pair-next.ensures)
 
 pub returns : goal.returns
 unfolding hex_of
