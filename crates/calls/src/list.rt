@@ -48,7 +48,7 @@ impl Session {
         }
     }
 
-    // Does what a line asks for, if its fields are good.
+    // Makes the call that a line asks for, if its fields are good.
     fn call(
         &mut self,
         kind: Kind,
@@ -58,8 +58,6 @@ impl Session {
         out: &mut Output,
     ) -> Option<()> {
         match kind {
-            Kind::Ignored => Some(()),
-            Kind::Unknown => None,
             Kind::Receive => self.receive(rest, journal, reply, out),
             Kind::Work => self.work(rest, journal, reply, out),
             Kind::Drain => self.drain(rest, journal, out),
@@ -75,9 +73,22 @@ impl Session {
             Kind::Device => self.given.read_device(rest),
             Kind::Peer => self.given.read_id(rest),
             Kind::Setup => self.set_up(rest, journal, out),
-            Kind::Output => self.set_output(rest),
-            Kind::Journal => self.set_journal(rest),
+            _ => None,
         }
+    }
+
+    // Makes a line's call with the journal, the reply's bytes and the fronts that it may be lent.
+    fn lend(
+        &mut self,
+        kind: Kind,
+        rest: &[u8],
+        journal: &mut [u64],
+        out: &mut Output,
+    ) -> Option<()> {
+        let lent = self.journal.min(journal.len());
+        let size = self.output.min(MOST_OUTPUT);
+        let mut reply = [0u8; MOST_OUTPUT];
+        self.call(kind, rest, &mut journal[..lent], &mut reply[..size], out)
     }
 
     fn set_output(&mut self, rest: &[u8]) -> Option<()> {
@@ -94,16 +105,13 @@ impl Session {
     fn answer(&mut self, line: &[u8], journal: &mut [u64], out: &mut Output) -> bool {
         let kind = kind::of_line(line);
         let end = fields::end_of(line, 0);
-        let lent = self.journal.min(journal.len());
-        let size = self.output.min(MOST_OUTPUT);
-        let mut reply = [0u8; MOST_OUTPUT];
-        let done = self.call(
-            kind,
-            &line[end..],
-            &mut journal[..lent],
-            &mut reply[..size],
-            out,
-        );
+        let rest = &line[end..];
+        let done = match kind {
+            Kind::Ignored => Some(()),
+            Kind::Output => self.set_output(rest),
+            Kind::Journal => self.set_journal(rest),
+            _ => self.lend(kind, rest, journal, out),
+        };
         done.is_some()
     }
 }
