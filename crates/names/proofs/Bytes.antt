@@ -3,20 +3,16 @@
 use mathlib.Core.Path.{◌≡◌, refl, sym, ap, ◌∙◌}
 use mathlib.Core.Bool.{Bool, true, false, not, ◌&&◌}
 use mathlib.Core.List.{List, [], ◌++◌}
-use Prim.Native.Nat.{ℕ, ◌+◌, ◌-◌, ◌*◌, ◌/◌, ◌%◌, ◌^◌, ◌<◌, ◌≤◌}
+use Prim.Native.Nat.{ℕ, ◌+◌, ◌-◌, ◌*◌, ◌/◌, ◌%◌, ◌^◌, ◌<◌}
 use native.Mathlib.Nat.{zero-div, mod-eq_of_lt, mod-mod, mul-add-mod_self_right}
 use native.Mathlib.Numerals.{add-one}
 use native.Mathlib.Omega.{arith}
 use lib.Arith.{digits_div}
-use lib.ListN.{length, get_or, take, drop, length-drop}
-use lib.Seq.{ext_get_or, length-take-le}
-use Rattle.std.specs.Bool.{Decides}
-use Rattle.std.proofs.lemmas.List.{get_or-take, get_or-drop}
 use lib.Dec.{eqb}
 use borrow.Author.Tests.{eq-eqb, eqb-true}
 use Rattle.wire.specs.BigEndian.{byte_at, number_at, bytes_of}
 use Rattle.wire.proofs.Laws.{number-split, number_bound, number-of-bytes}
-use Rattle.basics.specs.Choice.{◌and◌, every, tabulate}
+use Rattle.basics.specs.Choice.{◌and◌, tabulate}
 use Rattle.model.specs.Layout.{word_bytes, word_byte}
 use Rattle.basics.proofs.Choice.{both, every-at, every-make, every-same, tabulate-same}
 use Rattle.basics.proofs.Loops.{refute, every-fails}
@@ -100,25 +96,6 @@ words_same v w e = every-make _ word_bytes (λ k h. eq-eqb _ _ (ap (λ (x : ℕ)
 
 pub words-differ : (v w : ℕ) → v < 256 ^ word_bytes → w < 256 ^ word_bytes → (v ≡ w → ⊥) → same_bytes v w ≡ false
 words-differ v w hv hw n = sym (refute _ (λ t. n (same_word v w hv hw t)))
-
--- two runs of n words are equal exactly where their words have the same bytes
-pub runs-same : (l : List ℕ) (a b n k m : ℕ) (r : Bool) → ((i : ℕ) → get_or l i 0 < 256 ^ word_bytes) → a + n ≤ length l → b + n ≤ length l → k ≡ n → m ≡ n
-    → Decides r (take k (drop a l) ≡ take m (drop b l)) → r ≡ every n (λ q. same_bytes (get_or l (a + q) 0) (get_or l (b + q) 0))
-runs-same l a b n k m r fits ha hb ek em d =
-    test-same r (every n (λ q. same_bytes (get_or l (a + q) 0) (get_or l (b + q) 0)))
-    (λ t. every-make _ n (λ q h. words_same _ _ (sym (at a k ek q h) ∙ ap (λ (x : List ℕ). get_or x q 0) (d.0 t) ∙ at b m em q h)))
-    (λ t.
-    d.1
-    (ext_get_or 0 (take k (drop a l)) (take m (drop b l)) (long a k ek ha ∙ sym (long b m em hb))
-    (λ q h.
-    let q-below : q < n = omega (arith, long a k ek ha) in
-    at a k ek q q-below ∙ same_word _ _ (fits _) (fits _) (every-at _ n q t q-below) ∙ sym (at b m em q q-below))))
-  where
-    at : (from k : ℕ) → k ≡ n → (q : ℕ) → q < n → get_or (take k (drop from l)) q 0 ≡ get_or l (from + q) 0
-    at from k e q h = get_or-take k (drop from l) q 0 (omega arith) ∙ get_or-drop from l q 0
-
-    long : (from k : ℕ) → k ≡ n → from + n ≤ length l → length (take k (drop from l)) ≡ n
-    long from k e h = length-take-le k (drop from l) (omega (arith, length-drop from l)) ∙ e
 
 -- a word in the place of another that has its bytes
 pub bytes-instead : (w v u : ℕ) → ((k : ℕ) → k < word_bytes → word_byte v k ≡ word_byte u k) → same_bytes w v ≡ same_bytes w u

@@ -126,7 +126,13 @@ fn same_words(words: &[u64], a: usize, b: usize, n: usize) -> bool
     requires { (a + n ≤ length words.now) × (b + n ≤ length words.now) }
     ensures { result ≡ every n (λ q. same_bytes (get_or words.now (a + q) 0) (get_or words.now (b + q) 0)) }
 {
-    words[a..a + n] == words[b..b + n]
+    // A loop: `==` of two slices holds more registers in what tests each pair of ids, and so more of the stack.
+    for q in 0..n {
+        if words[a + q] != words[b + q] {
+            return false;
+        }
+    }
+    true
 }
 
 // The `n` bytes from the word `a` on and the `m` from `b` on are the same. Where they are as many, their words are the same: what follows them is 0.

@@ -153,7 +153,11 @@ fn differs(state: &State, channel: usize, q: usize, handle: u64) -> bool
     requires { (channel < channel_count) × (q < most_ids) }
     ensures { result ≡ (eqb (peered_at state.now channel q) 0 or not (eqb (peer_handle_at state.now channel q) handle)) }
 {
-    handle_of(state, channel, q) != handle || mark_of(state, channel, q) == 0
+    // Two tests: where they are one, the loop over them holds more registers, and each call more of the stack.
+    if handle_of(state, channel, q) != handle {
+        return true;
+    }
+    mark_of(state, channel, q) == 0
 }
 
 // "and differ there": id p's handle from those registered before it.

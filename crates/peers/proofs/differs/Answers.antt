@@ -8,6 +8,6 @@ use Rattle.peers.proofs.differs.Goals as goal
 pub returns-then-handle_of-handle : goal.returns-then-handle_of-handle
 returns-then-handle_of-handle c = rw (← c.handle_of.ensures, ne_eqb _ _ c.if-handle_of-handle.true) (sym (or-true _))
 
-pub returns-else-handle_of-handle : goal.returns-else-handle_of-handle
-returns-else-handle_of-handle c =
+pub returns : goal.returns
+returns c =
     rw (← c.handle_of.ensures, ← c.mark_of.ensures, eq-eqb _ _ c.if-handle_of-handle.false) (sym (or-none _))
