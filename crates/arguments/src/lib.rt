@@ -108,12 +108,12 @@ fn write_to(rt: HostRuntime, descriptor: i32, byte: u8) -> io::Result<()> {
     }
 }
 
-// Reports how the program ended, where it was given a descriptor for that.
-pub fn report(rt: HostRuntime, options: Options, outcome: Outcome) {
+// Reports by a byte how the program ended, where it was given a descriptor for that.
+pub fn report(rt: HostRuntime, options: Options, outcome: u8) {
     let Some(descriptor) = options.status_fd else {
         return;
     };
-    if write_to(rt, descriptor, outcome.byte()).is_err() {
+    if write_to(rt, descriptor, outcome).is_err() {
         tell(rt.stderr(), b"the outcome cannot be reported\n");
     }
 }
@@ -121,5 +121,5 @@ pub fn report(rt: HostRuntime, options: Options, outcome: Outcome) {
 // The answer to arguments that the program does not take.
 pub fn usage(rt: HostRuntime, options: Options, text: &[u8]) {
     tell(rt.stderr(), text);
-    report(rt, options, Outcome::Failed);
+    report(rt, options, Outcome::Failed.byte());
 }

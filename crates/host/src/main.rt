@@ -7,5 +7,5 @@ fn main(rt: HostRuntime) {
         arguments::usage(rt, options, b"usage: host [--status-fd N] < LIST\n");
         return;
     }
-    arguments::report(rt, options, calls::run(rt, b"arkelutz"));
+    arguments::report(rt, options, calls::run(rt, b"arkelutz").byte());
 }

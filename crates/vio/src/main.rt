@@ -11,5 +11,5 @@ fn main(rt: HostRuntime) {
         arguments::usage(rt, options, b"usage: vio [--status-fd N] < LIST\n");
         return;
     }
-    arguments::report(rt, options, list::run(rt));
+    arguments::report(rt, options, list::run(rt).byte());
 }
