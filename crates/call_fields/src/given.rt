@@ -15,7 +15,7 @@ const MOST_DEVICE_WORDS: usize = 64 * DEVICE_WORDS;
 const MOST_ID_WORDS: usize = 32 * ID_WORDS;
 
 // Rows of the same count of words, and how many words they have.
-#[derive(Drop)]
+#[derive(Clone, Copy)]
 struct Rows<const N: usize> {
     words: [u64; N],
     used: usize,
@@ -56,7 +56,7 @@ impl<const N: usize> Rows<N> {
     }
 }
 
-#[derive(Drop)]
+#[derive(Clone, Copy)]
 pub struct Given {
     devices: Rows<MOST_DEVICE_WORDS>,
     ids: Rows<MOST_ID_WORDS>,
