@@ -73,11 +73,12 @@ impl Session {
             Kind::Device => self.given.read_device(rest),
             Kind::Peer => self.given.read_id(rest),
             Kind::Setup => self.set_up(rest, journal, out),
-            _ => None,
+            // no call
+            Kind::Ignored | Kind::Output | Kind::Journal | Kind::Unknown => None,
         }
     }
 
-    // Makes a line's call with the journal, the reply's bytes and the fronts that it may be lent.
+    // Makes a line's call, lent as many words of journal and bytes of reply as the list has set.
     fn lend(
         &mut self,
         kind: Kind,
