@@ -1,6 +1,7 @@
-/* Preloaded into a program under test, whose name IN gives: reads of standard input deliver AFTER bytes, then fail with
-   ERROR (a number of errno). With MOST a read delivers at most so many bytes, and with INTERRUPTED every other read fails
-   with EINTR first. With SLOW_OUTPUT every other write to standard output fails with EINTR, and the others take a byte. */
+/* Preloaded into a program under test, whose name IN gives: reads of standard input deliver AFTER bytes, then fail
+   with ERROR (a number of errno). With MOST a read delivers at most so many bytes, and with INTERRUPTED every other
+   read fails with EINTR first. With SLOW_OUTPUT every other write to standard output fails with EINTR, and the others
+   take a byte. */
 #define _GNU_SOURCE
 #include <dlfcn.h>
 #include <errno.h>
